@@ -1,0 +1,10 @@
+use mathlib.Core.Path.{_≡_}
+use Prim.Native.Nat.{_≤_}
+use lib.ListN.{length, take}
+use Rattle.std.specs.shelf.Lists.{kept-by}
+use Rattle.history.specs.Layers.{ofStar}
+use Rattle.history.proofs.layers.PickSource.count.Given as given
+
+abbrev pub Inv-loop-i : given.InvT-loop-i
+Inv-loop-i g l = let es = g .S·Source .events (l .self .below) in
+    (l .seen ≤ l .i) × (l .seen ≡ length (kept-by (ofStar (l .self .star)) (take (l .i) es)))

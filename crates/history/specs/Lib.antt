@@ -1,0 +1,8 @@
+-- What a reader has to believe: Lists, Layers, Rules, Preferences.
+pub mod Lists
+pub mod Layers
+pub mod Rules
+pub mod Preferences
+-- Facts about them that the traits' members cite; the checker reads these.
+pub mod Few
+pub mod Lawful
