@@ -9,9 +9,10 @@ use borrow.Author.Tests.{lt-ltb, le-ltb, ltb-true, eq-eqb, ne-eqb}
 use lib.Dec.{eqb, ltb}
 use Rattle.std.proofs.shelf.Tests.{cases-order, cases-eq}
 use Rattle.history.specs.declared.event.Event.{Event}
-use Rattle.history.specs.declared.preference.Either.{Either}
-use Rattle.history.specs.declared.preference.Either.the-variants.{One, Other}
-use Rattle.history.specs.Preferences.{Lawful, byNumber, byKey, byStar, bySession, either}
+use Rattle.history.specs.declared.either.Either.{Either}
+use Rattle.history.specs.declared.either.Either.the-variants.{One, Other}
+use Rattle.history.specs.Either.{either}
+use Rattle.history.specs.Preferences.{Lawful, byNumber, byKey, byStar, bySession}
 
 -- of two different numbers exactly one is the lower
 apart : (a b : ℕ) → (a ≡ b → ⊥) → ltb a b ≡ not (ltb b a)

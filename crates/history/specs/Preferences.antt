@@ -6,8 +6,6 @@ use Prim.Native.Nat.{ℕ}
 use lib.Dec.{eqb, ltb}
 use Rattle.std.specs.declared.option.Option.the-variants.{Some}
 use Rattle.history.specs.declared.event.Event.{Event}
-use Rattle.history.specs.declared.preference.Either.{Either}
-use Rattle.history.specs.declared.preference.Either.the-variants.{One, Other}
 use Rattle.history.specs.Lists.{numbered}
 
 -- The laws of a preference among the events of one list: none is preferred to itself, of two different ones
@@ -33,8 +31,3 @@ byStar = byKey (λ e. e .star)
 -- By session, then number.
 abbrev pub bySession : ℕ → Event → ℕ → Event → Bool
 bySession = byKey (λ e. e .session)
-
--- The preference that one of two is.
-abbrev pub either : {P Q : Type 0} → (P → ℕ → Event → ℕ → Event → Bool) → (Q → ℕ → Event → ℕ → Event → Bool) → Either P Q → ℕ → Event → ℕ → Event → Bool
-either f g (One p) = f p
-either f g (Other q) = g q

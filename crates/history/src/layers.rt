@@ -14,6 +14,15 @@ pub struct Pick<S> {
     pub star: u8,
 }
 
+impl<S> Pick<S> {
+    /// Whether this layer keeps the event.
+    fn picks(&self, e: Event) -> bool
+        ensures { λ r. ⌜ r ≡ ofStar (now (self .entry) .star) e ⌝ }
+    {
+        e.star == self.star
+    }
+}
+
 pub impl<S: Source> Source for Pick<S> as PickSource {
     ghost season = { λ p. S·Source .season (p .below) };
 
@@ -29,7 +38,7 @@ pub impl<S: Source> Source for Pick<S> as PickSource {
         let mut seen = 0;
         for i in 0..self.below.count() {
             if let Some(e) = self.below.event(i + 1) {
-                if e.star == self.star {
+                if self.picks(e) {
                     seen += 1;
                 }
             }
@@ -41,7 +50,7 @@ pub impl<S: Source> Source for Pick<S> as PickSource {
         let mut seen = 0;
         for i in 0..self.below.count() {
             if let Some(e) = self.below.event(i + 1) {
-                if e.star == self.star {
+                if self.picks(e) {
                     seen += 1;
                     if seen == number {
                         return Some(e);

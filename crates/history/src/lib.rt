@@ -1,11 +1,15 @@
 //! Events, where they come from, which of them keep their order, and which is preferred.
 
+mod either;
 mod event;
 mod layers;
 mod preference;
 mod rule;
 mod source;
 
+pub use either::Either;
+pub use either::EitherPreference;
+pub use either::EitherSource;
 pub use event::Event;
 pub use event::EventDebug;
 pub use event::EventPartialEq;
@@ -23,8 +27,6 @@ pub use preference::BySession;
 pub use preference::BySessionPreference;
 pub use preference::ByStar;
 pub use preference::ByStarPreference;
-pub use preference::Either;
-pub use preference::EitherPreference;
 pub use preference::Preference;
 pub use rule::Lag;
 pub use rule::LagRule;
@@ -37,3 +39,6 @@ pub use source::LentSource;
 pub use source::Source;
 pub use source::Table;
 pub use source::TableSource;
+
+#[cfg(test)]
+mod tests;

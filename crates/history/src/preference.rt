@@ -3,8 +3,8 @@ ghost use mathlib.Core.List.{List};
 ghost use mathlib.Core.Bool.{Bool};
 ghost use Prim.Native.Nat.{ℕ};
 ghost use Rattle.history.specs.declared.event.Event.{Event};
-ghost use Rattle.history.specs.Preferences.{Lawful, byNumber, byStar, bySession, either};
-ghost use Rattle.history.specs.Lawful.{byNumber-lawful, byStar-lawful, bySession-lawful, either-lawful};
+ghost use Rattle.history.specs.Preferences.{Lawful, byNumber, byStar, bySession};
+ghost use Rattle.history.specs.Lawful.{byNumber-lawful, byStar-lawful, bySession-lawful};
 use crate::event::Event;
 
 /// Which of two events comes first where an order leaves the choice.
@@ -60,25 +60,5 @@ pub impl Preference for BySession as BySessionPreference {
 
     fn prefers(&self, m: u16, x: Event, n: u16, y: Event) -> bool {
         (x.session, m) < (y.session, n)
-    }
-}
-
-/// One of two preferences, so that a list of calls can mix them.
-#[derive(Clone, Copy)]
-pub enum Either<P, Q> {
-    One(P),
-    Other(Q),
-}
-
-pub impl<P: Preference, Q: Preference> Preference for Either<P, Q> as EitherPreference {
-    ghost prefers = { either (P·Preference .prefers) (Q·Preference .prefers) };
-
-    ghost lawful = { either-lawful (P·Preference .prefers) (Q·Preference .prefers) (P·Preference .lawful) (Q·Preference .lawful) };
-
-    fn prefers(&self, m: u16, x: Event, n: u16, y: Event) -> bool {
-        match self {
-            Either::One(p) => p.prefers(m, x, n, y),
-            Either::Other(q) => q.prefers(m, x, n, y),
-        }
     }
 }

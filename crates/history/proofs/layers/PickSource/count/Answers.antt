@@ -8,7 +8,7 @@ use Rattle.std.specs.shelf.Lists.{kept-by}
 use Rattle.history.specs.Layers.{ofStar}
 use Rattle.history.proofs.Numbered.{kept-more-yes, kept-more-no, numbered-there}
 use Rattle.history.proofs.layers.PickSource.count.Needs as need
-use Rattle.history.proofs.layers.PickSource.count.Needs.{in-Some·then-e-self, in-Some·else-e-self, in-rest}
+use Rattle.history.proofs.layers.PickSource.count.Needs.{in-Some·then-picks, in-Some·else-picks, in-rest}
 
 pub loop-i-again : need.loop-i-again
 loop-i-again g c =
@@ -16,11 +16,11 @@ loop-i-again g c =
     let es = g .S·Source .events (c .args .self .now .below) in
     let i = c .loop-i .i in
     elim (c .match-event .came) [
-      | in-Some·then-e-self w ↦
-          let m = kept-more-yes p es i (w .in-Some .e) (sym (w .in-Some .ensures tt)) (eq-eqb _ _ (w .if-e-self .taken)) in
+      | in-Some·then-picks w ↦
+          let m = kept-more-yes p es i (w .in-Some .e) (sym (w .in-Some .ensures tt)) (sym (w .if-picks .ensures tt)) in
           (omega (arith, w .seen-is), omega (arith, w .seen-is, m))
-      | in-Some·else-e-self w ↦
-          let m = kept-more-no p es i (w .in-Some .e) (sym (w .in-Some .ensures tt)) (ne-eqb _ _ (w .if-e-self .left)) in
+      | in-Some·else-picks w ↦
+          let m = kept-more-no p es i (w .in-Some .e) (sym (w .in-Some .ensures tt)) (sym (w .if-picks .ensures tt)) in
           (omega (arith, w .seen-is), omega (arith, w .seen-is, m))
       | in-rest w ↦ absurd (numbered-there es (i + 1) (omega arith) (omega arith) (sym (c .event .ensures) ∙ w .in-rest .is))
     ]

@@ -12,13 +12,13 @@ use Rattle.history.specs.Layers.{ofStar}
 use Rattle.history.specs.Lists.{numbered}
 use Rattle.history.proofs.Numbered.{kept-more-yes, kept-more-no, numbered-kept, numbered-past, numbered-there}
 use Rattle.history.proofs.layers.PickSource.event.Needs as need
-use Rattle.history.proofs.layers.PickSource.event.Needs.{in-Some·then-e-self·else-seen-number, in-Some·else-e-self, in-rest}
+use Rattle.history.proofs.layers.PickSource.event.Needs.{in-Some·then-picks·else-seen-number, in-Some·else-picks, in-rest}
 
 pub returns-then-seen-number : need.returns-then-seen-number
 returns-then-seen-number g c =
     let p = ofStar (c .args .self .now .star) in
     let es = g .S·Source .events (c .args .self .now .below) in
-    sym (numbered-kept p es (c .loop-i .i) (c .in-Some .e) (sym (c .in-Some .ensures tt)) (c .args .number) (eq-eqb _ _ (c .if-e-self .taken)) (omega arith))
+    sym (numbered-kept p es (c .loop-i .i) (c .in-Some .e) (sym (c .in-Some .ensures tt)) (c .args .number) (sym (c .if-picks .ensures tt)) (omega arith))
 
 pub loop-i-again : need.loop-i-again
 loop-i-again g c =
@@ -26,11 +26,11 @@ loop-i-again g c =
     let es = g .S·Source .events (c .args .self .now .below) in
     let i = c .loop-i .i in
     elim (c .match-event .came) [
-      | in-Some·then-e-self·else-seen-number w ↦
-          let m = kept-more-yes p es i (w .in-Some .e) (sym (w .in-Some .ensures tt)) (eq-eqb _ _ (w .if-e-self .taken)) in
+      | in-Some·then-picks·else-seen-number w ↦
+          let m = kept-more-yes p es i (w .in-Some .e) (sym (w .in-Some .ensures tt)) (sym (w .if-picks .ensures tt)) in
           (omega (arith, w .seen-is), omega (arith, w .seen-is, m), λ pos. let b = c .loop-i .inv .2 pos in omega (arith, w .seen-is, w .if-seen-number .left))
-      | in-Some·else-e-self w ↦
-          let m = kept-more-no p es i (w .in-Some .e) (sym (w .in-Some .ensures tt)) (ne-eqb _ _ (w .if-e-self .left)) in
+      | in-Some·else-picks w ↦
+          let m = kept-more-no p es i (w .in-Some .e) (sym (w .in-Some .ensures tt)) (sym (w .if-picks .ensures tt)) in
           (omega (arith, w .seen-is), omega (arith, w .seen-is, m), λ pos. let b = c .loop-i .inv .2 pos in omega (arith, w .seen-is))
       | in-rest w ↦ absurd (numbered-there es (i + 1) (omega arith) (omega arith) (sym (c .event .ensures) ∙ w .in-rest .is))
     ]

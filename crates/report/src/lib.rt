@@ -1,0 +1,3 @@
+//! The printed report on a packed history.
+
+mod text;
