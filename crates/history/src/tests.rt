@@ -12,20 +12,46 @@ fn last<S: Source>(source: &S) -> Option<Event>
 }
 
 fn event(kind: u8, session: u8, star: u8, revision: u16) -> Event {
-    Event { kind, session, star, revision }
+    Event {
+        kind,
+        session,
+        star,
+        revision,
+    }
 }
 
 /// A join of a pick of an offset of a table with another offset.
 #[test]
 fn a_pile_of_three_layers() -> Result<(), Fail> {
-    let ours = [event(1, 0, 3, 7), event(0, 1, 4, 0), event(1, 250, 3, 65530)];
+    let ours = [
+        event(1, 0, 3, 7),
+        event(0, 1, 4, 0),
+        event(1, 250, 3, 65530),
+    ];
     let theirs = [event(0, 2, 3, 0), event(0, 2, 9, 1)];
-    let table = Table { season: 2031, events: &ours };
-    let moved = Offset { below: table, sessions: 10, revisions: 10 };
-    let first = Pick { below: moved, star: 3 };
+    let table = Table {
+        season: 2031,
+        events: &ours,
+    };
+    let moved = Offset {
+        below: table,
+        sessions: 10,
+        revisions: 10,
+    };
+    let first = Pick {
+        below: moved,
+        star: 3,
+    };
     check_eq(last(&first), Some(event(1, 255, 3, 65535)))?;
-    let other = Table { season: 2031, events: &theirs };
-    let second = Offset { below: other, sessions: 1, revisions: 100 };
+    let other = Table {
+        season: 2031,
+        events: &theirs,
+    };
+    let second = Offset {
+        below: other,
+        sessions: 1,
+        revisions: 100,
+    };
     let pile = Join { first, second };
     check_eq(pile.season(), 2031)?;
     check_eq(pile.count(), 4)?;
@@ -38,8 +64,14 @@ fn a_pile_of_three_layers() -> Result<(), Fail> {
 
 #[test]
 fn seasons_rules_and_preferences() -> Result<(), Fail> {
-    let first = Table { season: 2031, events: &[] };
-    let second = Table { season: 2032, events: &[] };
+    let first = Table {
+        season: 2031,
+        events: &[],
+    };
+    let second = Table {
+        season: 2032,
+        events: &[],
+    };
     let apart = Join { first, second };
     check_eq(apart.season(), 0)?;
     check(Strict.keeps(WRITE, 1, READ, 2))?;

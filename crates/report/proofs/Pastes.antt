@@ -21,7 +21,7 @@ length-front old at a h = simp length-append (omega (arith, length-take-le at ol
 
 -- a text behind a text is the two as one
 pub pasted-on : (old : List ℕ) (at : ℕ) (a b : List ℕ) (next : ℕ) → next ≡ at + length a → next + length b ≤ length old
-  → pasted (pasted old at a) next b ≡ pasted old at (a ++ b)
+    → pasted (pasted old at a) next b ≡ pasted old at (a ++ b)
 pasted-on old at a b next e h =
     let front = take at old ++ a in
     let back = drop (at + length a) old in
@@ -29,14 +29,14 @@ pasted-on old at a b next e h =
     let whole = split-at old at a in
     let one : take next (pasted old at a) ≡ front = ap (take next) whole ∙ take-at front back next n in
     let two : drop (next + length b) (pasted old at a) ≡ drop (at + length (a ++ b)) old =
-        sym (drop-drop (length b) next (pasted old at a)) ∙ ap (λ l. drop (length b) (drop next l)) whole ∙ ap (drop (length b)) (drop-at front back next n)
-        ∙ drop-drop (length b) (at + length a) old ∙ ap (λ n. drop n old) (simp length-append (omega arith)) in
+    sym (drop-drop (length b) next (pasted old at a)) ∙ ap (λ l. drop (length b) (drop next l)) whole ∙ ap (drop (length b)) (drop-at front back next n)
+    ∙ drop-drop (length b) (at + length a) old ∙ ap (λ n. drop n old) (simp length-append (omega arith)) in
     ap (λ l. l ++ (b ++ drop (next + length b) (pasted old at a))) one ∙ ap (λ l. front ++ (b ++ l)) two
     ∙ append-assoc (take at old) a _ ∙ ap (λ l. take at old ++ l) (sym (append-assoc a b _))
 
 -- one byte behind a text
 pub set-pasted : (old : List ℕ) (at : ℕ) (a : List ℕ) (next x : ℕ) → next ≡ at + length a → next < length old
-  → set (pasted old at a) next x ≡ pasted old at (a ++ (x ∷ []))
+    → set (pasted old at a) next x ≡ pasted old at (a ++ (x ∷ []))
 set-pasted old at a next x e h =
     let front = take at old ++ a in
     let n : length front ≡ next = length-front old at a (omega arith) ∙ sym e in
@@ -55,7 +55,7 @@ then {x} {y} {z} {at} {p} {q} {a} {b} s t room =
     let tp = t .place in
     record {
       place = simp length-append (omega arith);
-      after = t .after ∙ ap (λ l. pasted l p b) (s .after) ∙ pasted-on x at a b p (s .place) (omega arith)
+      after = t .after ∙ ap (λ l. pasted l p b) (s .after) ∙ pasted-on x at a b p (s .place) (omega arith);
     }
 
 -- the same text, written otherwise

@@ -28,7 +28,14 @@ pub(crate) fn put_number(buffer: &mut [u8], at: usize, n: u64) -> usize
 }
 
 /// Puts a line of two words, each with a number behind it.
-pub(crate) fn put_pair_line(buffer: &mut [u8], at: usize, first: &[u8], m: u64, second: &[u8], n: u64) -> usize
+pub(crate) fn put_pair_line(
+    buffer: &mut [u8],
+    at: usize,
+    first: &[u8],
+    m: u64,
+    second: &[u8],
+    n: u64,
+) -> usize
     requires { ⌜ at + length (pairLine (now first) m (now second) n) ≤ length (now buffer) ⌝ }
     ensures { λ r. ⌜ Put (now (buffer .entry)) (now (buffer .exit)) at r (pairLine (now (first .entry)) m (now (second .entry)) n) ⌝ }
 {

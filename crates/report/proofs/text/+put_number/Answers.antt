@@ -25,7 +25,7 @@ returns-then-n-lt10 t c =
     let one = one-long (c .args .n) (c .if-n-lt10 .taken) in
     record {
       place = omega arith;
-      after = set-first (c .args .buffer .now) (c .args .at) (48 + c .args .n) (omega arith) ∙ ap (pasted (c .args .buffer .now) (c .args .at)) (sym (decimal-digit (c .args .n) (c .if-n-lt10 .taken)))
+      after = set-first (c .args .buffer .now) (c .args .at) (48 + c .args .n) (omega arith) ∙ ap (pasted (c .args .buffer .now) (c .args .at)) (sym (decimal-digit (c .args .n) (c .if-n-lt10 .taken)));
     }
 
 pub put-number-last-requires : need.put-number-last-requires
@@ -53,7 +53,7 @@ returns t c =
     record {
       place = omega arith;
       after =
-        ap (λ l. set l (c .put-number-last .result) (48 + n % 10)) (c .put-number-last .ensures .after)
-        ∙ set-pasted old at (decimal (n / 10)) (c .put-number-last .result) (48 + n % 10) (c .put-number-last .ensures .place) (omega arith)
-        ∙ ap (pasted old at) (sym (decimal-step n (c .if-n-lt10 .left) (omega arith)))
+          ap (λ l. set l (c .put-number-last .result) (48 + n % 10)) (c .put-number-last .ensures .after)
+          ∙ set-pasted old at (decimal (n / 10)) (c .put-number-last .result) (48 + n % 10) (c .put-number-last .ensures .place) (omega arith)
+          ∙ ap (pasted old at) (sym (decimal-step n (c .if-n-lt10 .left) (omega arith)));
     }

@@ -1,0 +1,9 @@
+pub mod Fields
+pub mod Flips
+pub mod Fills
+pub mod Sound
+pub mod Returns
+pub mod Meant
+pub mod Puts
+pub mod Grown
+pub mod Backs

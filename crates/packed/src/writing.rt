@@ -1,0 +1,106 @@
+ghost use mathlib.Core.Path.{_≡_};
+ghost use mathlib.Core.Bool.{true};
+ghost use Prim.Native.Nat.{_+_, _*_, _≤_};
+ghost use lib.ListN.{length};
+ghost use Rattle.packed.specs.Bits.{Put};
+ghost use Rattle.packed.specs.Layout.{headWord, eventWord, size};
+ghost use Rattle.packed.specs.Writing.{fitting, allFitting, Writable, overlaid, writing, written};
+ghost use Rattle.packed.specs.RoundTrips.{ReadsBack};
+use crate::bits::put_bits;
+use crate::fault::WriteRefusal;
+use crate::header::bits_used;
+use crate::header::bytes_used;
+use history::Event;
+use history::Source;
+
+/// Whether each field of an event has room in a packed file.
+fn fits(e: Event) -> bool
+    ensures { λ r. ⌜ r ≡ fitting e ⌝ }
+{
+    e.kind <= 1 && e.session <= 15 && e.star <= 63 && e.revision <= 16383
+}
+
+/// Whether that holds of all events of a source.
+fn all_fit<S: Source>(source: &S) -> bool
+    ensures { λ r. ⌜ r ≡ allFitting (events (now (source .entry))) ⌝ }
+{
+    for i in 0..source.count() {
+        if let Some(e) = source.event(i + 1) {
+            if !fits(e) {
+                return false;
+            }
+        }
+    }
+    true
+}
+
+/// Writes the header.
+fn put_head(bytes: &mut [u8], season: u16, count: u16)
+    requires inside { ⌜ 4 ≤ length (now bytes) ⌝ }
+    requires season_fits { ⌜ season ≤ 4095 ⌝ }
+    requires count_fits { ⌜ count ≤ 256 ⌝ }
+    ensures { λ _. ⌜ Put (now (bytes .entry)) (now (bytes .exit)) 0 25 (headWord season count) ⌝ }
+{
+    put_bits(bytes, 0, 4, 1);
+    put_bits(bytes, 4, 12, season);
+    put_bits(bytes, 16, 9, count);
+}
+
+/// Writes the event with a number.
+fn put_event(bytes: &mut [u8], number: u16, e: Event)
+    requires inside { ⌜ number * 25 + 25 ≤ 8 * length (now bytes) ⌝ }
+    requires fits { ⌜ fitting e ≡ true ⌝ }
+    ensures { λ _. ⌜ Put (now (bytes .entry)) (now (bytes .exit)) (number * 25) 25 (eventWord e) ⌝ }
+{
+    let at = number as usize * 25;
+    put_bits(bytes, at, 1, e.kind as u16);
+    put_bits(bytes, at + 1, 4, e.session as u16);
+    put_bits(bytes, at + 5, 6, e.star as u16);
+    put_bits(bytes, at + 11, 14, e.revision);
+}
+
+/// Writes a source that can be written into bytes that have room for it.
+fn put_all<S: Source>(source: &S, bytes: &mut [u8])
+    requires can { ⌜ Writable (season (now source)) (events (now source)) ⌝ }
+    requires room { ⌜ size (length (events (now source))) ≤ length (now bytes) ⌝ }
+    ensures { λ _. ⌜ now (bytes .exit) ≡ overlaid (season (now (source .entry))) (events (now (source .entry))) (now (bytes .entry)) ⌝ }
+{
+    let count = source.count();
+    put_head(bytes, source.season(), count);
+    for i in 0..count {
+        if let Some(e) = source.event(i + 1) {
+            put_event(bytes, i + 1, e);
+        }
+    }
+    let end = bits_used(count);
+    put_bits(bytes, end, 8 * bytes_used(count) - end, 0);
+}
+
+/// Writes a source into the front of a buffer, and answers how many bytes it took; the bytes past
+/// those stay.
+///
+/// Refuses, in this order, more than 256 events, an event with a kind above 1, a session above 15, a
+/// star above 63 or a revision above 16,383, a season above 4,095, and a buffer that is too short. A
+/// refusal leaves the buffer as it was.
+pub fn write<S: Source>(source: &S, buffer: &mut [u8]) -> Result<usize, WriteRefusal>
+    ensures answer { λ r. ⌜ r ≡ writing (season (now (source .entry))) (events (now (source .entry))) (length (now (buffer .entry))) ⌝ }
+    ensures after { λ r. ⌜ now (buffer .exit) ≡ written (season (now (source .entry))) (events (now (source .entry))) (now (buffer .entry)) r ⌝ }
+    ensures back { λ r. ⌜ ReadsBack (season (now (source .entry))) (events (now (source .entry))) (now (buffer .exit)) r ⌝ }
+{
+    let count = source.count();
+    if count > 256 {
+        return Err(WriteRefusal::Long);
+    }
+    if !all_fit(source) {
+        return Err(WriteRefusal::Outside);
+    }
+    if source.season() > 4095 {
+        return Err(WriteRefusal::Season);
+    }
+    let used = bytes_used(count);
+    if buffer.len() < used {
+        return Err(WriteRefusal::Buffer);
+    }
+    put_all(source, buffer);
+    Ok(used)
+}
