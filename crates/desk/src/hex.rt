@@ -14,7 +14,7 @@ fn digit(b: u8) -> Option<u8> {
 
 /// The bytes that pairs of digits write, or no bytes for `-`; none where there is another character or
 /// one digit alone.
-pub fn parse_hex(heap: Global, text: &str) -> Result<Option<Vec<u8>>, AllocError> {
+pub(crate) fn parse_hex(heap: Global, text: &str) -> Result<Option<Vec<u8>>, AllocError> {
     let mut bytes = Vec::new(heap);
     if text == "-" {
         return Ok(Some(bytes));
@@ -37,7 +37,7 @@ pub fn parse_hex(heap: Global, text: &str) -> Result<Option<Vec<u8>>, AllocError
 }
 
 /// The digits of bytes.
-pub fn print_hex(heap: Global, bytes: &[u8]) -> Result<String, AllocError> {
+pub(crate) fn print_hex(heap: Global, bytes: &[u8]) -> Result<String, AllocError> {
     let mut text = String::new(heap);
     for b in bytes {
         text.push_str(format!(heap, "{b:02x}")?.as_str())?;

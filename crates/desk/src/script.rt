@@ -117,7 +117,7 @@ fn parse_questions(words: &[&str]) -> Option<Line<'static>> {
 }
 
 /// The line that the words are, if any.
-pub fn parse<'a>(words: &[&'a str]) -> Option<Line<'a>> {
+pub(crate) fn parse<'a>(words: &[&'a str]) -> Option<Line<'a>> {
     match words {
         ["table", name, season] => Some(Line::Table(parse_name(name)?, season.parse().ok()?)),
         ["event", kind, session, star, revision] => parse_event(kind, session, star, revision),

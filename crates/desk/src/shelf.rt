@@ -61,7 +61,7 @@ pub struct Shelf {
 }
 
 impl Shelf {
-    pub fn new(heap: Global) -> Shelf {
+    pub(crate) fn new(heap: Global) -> Shelf {
         Shelf {
             a: Held::Bytes(Vec::new(heap)),
             b: Held::Bytes(Vec::new(heap)),
@@ -142,7 +142,7 @@ impl Shelf {
     }
 
     /// Does what a line says, and prints the answer; false where the line does not fit.
-    pub fn answer(&mut self, rt: &LibcRuntime, line: Line<'_>) -> Result<bool, AnyError> {
+    pub(crate) fn answer(&mut self, rt: &LibcRuntime, line: Line<'_>) -> Result<bool, AnyError> {
         match line {
             Line::Table(name, season) => self.put(
                 name,

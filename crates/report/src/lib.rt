@@ -10,3 +10,6 @@ pub use printing::ReportRefusal;
 pub use printing::ReportRefusalDebug;
 pub use printing::ReportRefusalPartialEq;
 pub use printing::report;
+
+#[cfg(test)]
+mod tests;
