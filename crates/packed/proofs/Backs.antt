@@ -1,6 +1,6 @@
 -- What was written reads back, and nothing else reads so; what was read writes back.
 use mathlib.Core.Path.{_≡_, refl, sym, ap, _∙_}
-use mathlib.Core.Bool.{Bool, true, false, not, cond, _&&_}
+use mathlib.Core.Bool.{Bool, true, false, cond, _&&_}
 use mathlib.Core.List.{List, [], _∷_, _++_, map}
 use Prim.Native.Nat.{ℕ, _+_, _*_, _≤_, _<_, _^_}
 use native.Mathlib.Omega.{arith}
@@ -17,11 +17,11 @@ use Rattle.packed.specs.declared.fault.FileFault.{FileFault}
 use Rattle.packed.specs.declared.fault.WriteRefusal.{WriteRefusal}
 use Rattle.packed.specs.Bits.{bitIn, field}
 use Rattle.packed.specs.Layout.{encode, size}
-use Rattle.packed.specs.Reading.{checked, seasonIn, countIn, eventIn, eventsIn, seasonBy, eventsBy, seasonMeant, eventsMeant, Accepted, Means, Bytes}
+use Rattle.packed.specs.Reading.{checked, seasonIn, eventIn, eventsIn, seasonBy, eventsBy, seasonMeant, eventsMeant, Accepted, Means, Bytes}
 use Rattle.packed.specs.Writing.{fitting, allFitting, Writable, writing, written, overlaid}
-use Rattle.packed.specs.RoundTrips.{MeansAlone, Rewritten, WrittenReadsBack, ReadWritesBack}
+use Rattle.packed.specs.RoundTrips.{MeansAlone, WrittenReadsBack, ReadWritesBack}
 use Rattle.packed.proofs.Fields.{bitIn-small, field-small}
-use Rattle.packed.proofs.Sound.{Sound, headIn, sound, accepts}
+use Rattle.packed.proofs.Sound.{Sound, sound, accepts}
 use Rattle.packed.proofs.Returns.{written-back, count-events, season-back, events-back, sound-back}
 
 -- accepted bytes pass every test

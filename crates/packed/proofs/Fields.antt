@@ -1,16 +1,15 @@
 -- Fields of bits, once over the width.
 use mathlib.Core.Path.{_≡_, refl, sym, ap, _∙_}
-use mathlib.Core.List.{List, map}
+use mathlib.Core.List.{List}
 use mathlib.Core.Logic.{_⊎_, inl, inr}
-use Prim.Native.Nat.{ℕ, zero, suc, _+_, _-_, _*_, _/_, _%_, _^_, _<_, _≤_}
+use Prim.Native.Nat.{ℕ, zero, suc, _+_, _-_, _*_, _/_, _%_, _^_, _<_}
 use native.Mathlib.Omega.{arith}
 use native.Mathlib.Numerals.{add-one}
 use native.Mathlib.Nat.{mul-assoc, mod-eq-of-lt}
 use lib.ListN.{length, getD}
-use lib.Pow.{pow-pos, pow-add, shr-shr, mod-pow-add}
-use Rattle.std.specs.Iters.{counting}
+use lib.Pow.{pow-add, shr-shr, mod-pow-add}
 use Rattle.std.proofs.shelf.Bits.{mod-below, div-mul-add, mod-mul-add, div-add-mod'}
-use Rattle.std.proofs.shelf.Counted.{getD-map-counting, length-map-counting, fill-by-all}
+use Rattle.std.proofs.shelf.Counted.{getD-map-counting, fill-by-all}
 use Rattle.packed.specs.Bits.{bitOf, bitIn, field, grouped}
 
 pub pow-two : (w : ℕ) → 2 ^ suc w ≡ 2 ^ w * 2
@@ -22,9 +21,6 @@ mod-two v w = ap (λ n. v % 2 ^ n) (sym (add-one w)) ∙ mod-pow-add v w 1
 -- a bit that lies d places on in a number is a bit of its upper part
 bit-up : (v a b c : ℕ) → a + b ≡ c → v / 2 ^ a / 2 ^ b % 2 ≡ v / 2 ^ c % 2
 bit-up v a b c e = ap (λ n. n % 2) (shr-shr v a b ∙ ap (λ n. v / 2 ^ n) e)
-
-pub Bitwise : (ℕ → ℕ) → Type 0
-Bitwise f = (i : ℕ) → f i < 2
 
 pub bitIn-small : (w : ℕ) (ds : List ℕ) → (i : ℕ) → bitIn w ds i < 2
 bitIn-small w ds i = mod-below _ 2 (omega arith)

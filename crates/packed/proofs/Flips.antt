@@ -2,14 +2,14 @@
 use mathlib.Core.Path.{_≡_, refl, sym, ap, _∙_}
 use mathlib.Core.List.{List}
 use mathlib.Core.Logic.{_⊎_, inl, inr}
-use Prim.Native.Nat.{ℕ, zero, suc, _+_, _-_, _*_, _/_, _%_, _^_, _<_, _≤_}
+use Prim.Native.Nat.{ℕ, zero, suc, _+_, _-_, _*_, _/_, _%_, _^_, _<_}
 use native.Mathlib.Omega.{arith}
-use native.Mathlib.Nat.{mod-eq-of-lt, div-eq-of-lt}
+use native.Mathlib.Nat.{div-eq-of-lt}
 use lib.Bits.{bitXor}
-use lib.Pow.{pow-pos, pow-add, pow-lt, shl-shr}
+use lib.Pow.{pow-add, pow-lt, shl-shr}
 use lib.ListN.{length, getD, set}
 use lib.Seq.{getD-set-same, getD-set-other}
-use Rattle.std.proofs.shelf.Bits.{xor-shr, xor-mod, one-shl}
+use Rattle.std.proofs.shelf.Bits.{xor-shr, xor-mod}
 use Rattle.packed.specs.Bits.{bitOf, bitIn}
 
 order : (p k : ℕ) → (p ≡ k → ⊥) → (p < k) ⊎ (k < p)

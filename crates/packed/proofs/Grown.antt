@@ -1,15 +1,15 @@
 -- A buffer that is written word by word.
-use mathlib.Core.Path.{_≡_, refl, sym, ap, _∙_}
-use mathlib.Core.Bool.{Bool, true, false, _&&_}
-use mathlib.Core.List.{List, [], _∷_, _++_, map}
-use mathlib.Core.Logic.{_⊎_, inl, inr}
-use Prim.Native.Nat.{ℕ, zero, suc, _+_, _-_, _*_, _/_, _%_, _^_, _<_, _≤_}
+use mathlib.Core.Path.{_≡_, sym, ap, _∙_}
+use mathlib.Core.Bool.{true}
+use mathlib.Core.List.{List, [], _∷_, _++_}
+use mathlib.Core.Logic.{inl, inr}
+use Prim.Native.Nat.{ℕ, zero, suc, _+_, _-_, _*_, _/_, _%_, _<_, _≤_}
 use native.Mathlib.Omega.{arith}
 use native.Mathlib.Numerals.{add-one}
 use lib.ListN.{length, getD, take, drop, length-drop, take-append-drop}
 use lib.Seq.{getD-take, length-take-le}
 use Rattle.std.proofs.shelf.Lists.{getD-map, getD-drop, ext-getD, drop-more}
-use Rattle.std.proofs.shelf.Tests.{cases-lt, and-parts, and-left}
+use Rattle.std.proofs.shelf.Tests.{cases-lt, and-parts}
 use Rattle.std.specs.declared.option.Option.the-variants.{Some}
 use Rattle.history.specs.declared.event.Event.{Event}
 use Rattle.history.specs.Lists.{numbered}

@@ -1,14 +1,13 @@
 -- Fields put one behind the other.
-use mathlib.Core.Path.{_≡_, refl, sym, ap, _∙_}
+use mathlib.Core.Path.{_≡_, sym, ap, _∙_}
 use mathlib.Core.List.{List}
-use mathlib.Core.Logic.{_⊎_, inl, inr}
-use Prim.Native.Nat.{ℕ, zero, suc, _+_, _-_, _*_, _/_, _%_, _^_, _<_, _≤_}
+use mathlib.Core.Logic.{inl, inr}
+use Prim.Native.Nat.{ℕ, _+_, _-_, _*_, _/_, _%_, _^_, _<_}
 use native.Mathlib.Omega.{arith}
-use lib.ListN.{getD}
 use lib.Pow.{shr-shr, mod-mod-pow, field as field-of}
 use Rattle.std.proofs.shelf.Bits.{shr-high, mod-low}
 use Rattle.std.proofs.shelf.Tests.{cases-lt}
-use Rattle.packed.specs.Bits.{bitOf, bitIn, Spelled, Put}
+use Rattle.packed.specs.Bits.{bitOf, bitIn, Put}
 
 -- a bit of the lower part
 bit-low : (x w m : ℕ) → m < w → x % 2 ^ w / 2 ^ m % 2 ≡ x / 2 ^ m % 2

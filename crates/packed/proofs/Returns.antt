@@ -1,8 +1,8 @@
 -- Writing and reading back.
 use mathlib.Core.Path.{_≡_, refl, sym, ap, _∙_}
-use mathlib.Core.Bool.{Bool, true, false, cond, _&&_}
+use mathlib.Core.Bool.{true}
 use mathlib.Core.List.{List, [], _∷_, map}
-use mathlib.Core.Logic.{_⊎_, inl, inr}
+use mathlib.Core.Logic.{inl, inr}
 use Prim.Native.Nat.{ℕ, zero, suc, _+_, _-_, _*_, _/_, _%_, _^_, _<_, _≤_}
 use native.Mathlib.Omega.{arith}
 use native.Mathlib.Numerals.{add-one}
@@ -14,11 +14,11 @@ use Rattle.std.proofs.shelf.Counted.{getD-map-counting, length-map-counting, fi
 use Rattle.std.proofs.shelf.Tests.{cases-lt, and-parts, leb-true}
 use Rattle.std.proofs.shelf.Bits.{div-add-mod', mod-below}
 use Rattle.history.specs.declared.event.Event.{Event}
-use Rattle.packed.specs.Bits.{bitOf, bitIn, field, grouped}
+use Rattle.packed.specs.Bits.{bitOf, bitIn, field}
 use Rattle.packed.specs.Layout.{headWord, eventWord, words, size, encode}
 use Rattle.packed.specs.Reading.{versionIn, seasonIn, countIn, eventIn, eventsIn}
 use Rattle.packed.specs.Writing.{fitting, allFitting, Writable}
-use Rattle.packed.proofs.Fields.{bitIn-small, field-same, field-add, bit-field, field-within, join, bit-grouped, grouped-is}
+use Rattle.packed.proofs.Fields.{bitIn-small, field-same, bit-field, field-within, join, bit-grouped, grouped-is}
 use Rattle.packed.proofs.Sound.{Sound}
 
 abbrev pub none : Event

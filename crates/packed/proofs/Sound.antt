@@ -1,10 +1,9 @@
 -- What `checked` accepts, test by test.
-use mathlib.Core.Path.{_≡_, refl, sym, ap, _∙_}
-use mathlib.Core.Bool.{Bool, true, false, not, cond}
+use mathlib.Core.Path.{_≡_, refl, ap, _∙_}
+use mathlib.Core.Bool.{Bool, true, false, cond}
 use mathlib.Core.List.{List}
-use Prim.Native.Nat.{ℕ, _+_, _-_, _*_, _<_, _≤_}
+use Prim.Native.Nat.{ℕ, _+_, _*_, _<_, _≤_}
 use native.Mathlib.Omega.{arith}
-use lib.Dec.{eqb, ltb}
 use lib.ListN.{length}
 use Rattle.std.proofs.shelf.Tests.{ltb-false, eqb-true, not-false, le-ltb, eq-eqb, not-from-true, cond-false}
 use Rattle.std.specs.declared.option.Option.{Option}
@@ -15,7 +14,7 @@ use Rattle.packed.specs.declared.header.Header.{Header}
 use Rattle.packed.specs.declared.fault.FileFault.{FileFault}
 use Rattle.packed.specs.Bits.{bitIn}
 use Rattle.packed.specs.Layout.{size}
-use Rattle.packed.specs.Reading.{versionIn, countIn, seasonIn, checked, filled, firstOne}
+use Rattle.packed.specs.Reading.{versionIn, countIn, seasonIn, checked, filled}
 use Rattle.packed.proofs.Fields.{bitIn-small}
 use Rattle.packed.proofs.Fills.{none-zero, zero-none}
 

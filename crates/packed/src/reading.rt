@@ -2,8 +2,10 @@ ghost use mathlib.Core.Path.{_≡_};
 ghost use Prim.Native.Nat.{_+_, _-_, _*_, _^_, _<_, _≤_};
 ghost use lib.ListN.{length};
 ghost use denote.Ref.{now};
+ghost use Rattle.std.specs.declared.option.Option.the-variants.{Some};
+ghost use Rattle.history.specs.Lists.{numbered};
 ghost use Rattle.packed.specs.Bits.{bitIn};
-ghost use Rattle.packed.specs.Reading.{checked, fieldRead, firstOne, eventIn, seasonMeant, eventsMeant};
+ghost use Rattle.packed.specs.Reading.{checked, fieldRead, firstOne, seasonMeant, eventsMeant};
 ghost use Rattle.packed.specs.Few.{few-meant};
 use crate::bits::bit_at;
 use crate::bits::bits_at;
@@ -65,10 +67,11 @@ pub fn check(bytes: &[u8]) -> Result<Header, FileFault>
     }
 }
 
-/// The event with a number, of bytes that have it.
+/// The event with a number, of bytes that mean so many events.
 fn event_at(bytes: &[u8], number: u16) -> Event
-    requires { ⌜ number * 25 + 25 ≤ 8 * length (now bytes) ⌝ }
-    ensures { λ r. ⌜ r ≡ eventIn (now (bytes .entry)) number ⌝ }
+    requires above { ⌜ 0 < number ⌝ }
+    requires within { ⌜ number ≤ length (eventsMeant (now bytes)) ⌝ }
+    ensures { λ r. ⌜ Some r ≡ numbered (eventsMeant (now (bytes .entry))) number ⌝ }
 {
     let at = number as usize * 25;
     Event {
@@ -102,17 +105,14 @@ pub impl Source for Packed<'_> as PackedSource {
     }
 
     fn count(&self) -> u16 {
-        match check(self.bytes) {
-            Ok(header) => header.count,
-            Err(_) => 0,
-        }
+        let Ok(header) = check(self.bytes) else {
+            return 0;
+        };
+        header.count
     }
 
     fn event(&self, number: u16) -> Option<Event> {
-        let Ok(header) = check(self.bytes) else {
-            return None;
-        };
-        if number == 0 || number > header.count {
+        if number == 0 || number > self.count() {
             return None;
         }
         Some(event_at(self.bytes, number))

@@ -1,11 +1,11 @@
 ghost use mathlib.Core.Path.{_≡_};
 ghost use mathlib.Core.Bool.{true};
-ghost use Prim.Native.Nat.{_+_, _*_, _≤_};
-ghost use lib.ListN.{length};
+ghost use Prim.Native.Nat.{_+_, _-_, _*_, _≤_};
+ghost use lib.ListN.{length, take};
 ghost use Rattle.packed.specs.Bits.{Put};
 ghost use Rattle.packed.specs.Layout.{headWord, eventWord, size};
 ghost use Rattle.packed.specs.Writing.{fitting, allFitting, Writable, overlaid, writing, written};
-ghost use Rattle.packed.specs.RoundTrips.{ReadsBack};
+ghost use Rattle.packed.specs.RoundTrips.{MeansAlone, ReadsBack};
 use crate::bits::put_bits;
 use crate::fault::WriteRefusal;
 use crate::header::bits_used;
@@ -59,11 +59,22 @@ fn put_event(bytes: &mut [u8], number: u16, e: Event)
     put_bits(bytes, at + 11, 14, e.revision);
 }
 
-/// Writes a source that can be written into bytes that have room for it.
-fn put_all<S: Source>(source: &S, bytes: &mut [u8])
+/// Fills the last byte with zero bits.
+fn put_fill(bytes: &mut [u8], count: u16)
+    requires { ⌜ size count ≤ length (now bytes) ⌝ }
+    ensures { λ _. ⌜ Put (now (bytes .entry)) (now (bytes .exit)) (25 * (count + 1)) (8 * size count - 25 * (count + 1)) 0 ⌝ }
+{
+    let end = bits_used(count);
+    put_bits(bytes, end, 8 * bytes_used(count) - end, 0);
+}
+
+/// Writes a source that can be written into bytes that have room for it, and answers how many it took.
+fn put_all<S: Source>(source: &S, bytes: &mut [u8]) -> usize
     requires can { ⌜ Writable (season (now source)) (events (now source)) ⌝ }
     requires room { ⌜ size (length (events (now source))) ≤ length (now bytes) ⌝ }
-    ensures { λ _. ⌜ now (bytes .exit) ≡ overlaid (season (now (source .entry))) (events (now (source .entry))) (now (bytes .entry)) ⌝ }
+    ensures used { λ r. ⌜ r ≡ size (length (events (now (source .entry)))) ⌝ }
+    ensures after { λ _. ⌜ now (bytes .exit) ≡ overlaid (season (now (source .entry))) (events (now (source .entry))) (now (bytes .entry)) ⌝ }
+    ensures back { λ r. ⌜ MeansAlone (take r (now (bytes .exit))) (season (now (source .entry))) (events (now (source .entry))) ⌝ }
 {
     let count = source.count();
     put_head(bytes, source.season(), count);
@@ -72,8 +83,8 @@ fn put_all<S: Source>(source: &S, bytes: &mut [u8])
             put_event(bytes, i + 1, e);
         }
     }
-    let end = bits_used(count);
-    put_bits(bytes, end, 8 * bytes_used(count) - end, 0);
+    put_fill(bytes, count);
+    bytes_used(count)
 }
 
 /// Writes a source into the front of a buffer, and answers how many bytes it took; the bytes past
@@ -97,10 +108,8 @@ pub fn write<S: Source>(source: &S, buffer: &mut [u8]) -> Result<usize, WriteRef
     if source.season() > 4095 {
         return Err(WriteRefusal::Season);
     }
-    let used = bytes_used(count);
-    if buffer.len() < used {
+    if buffer.len() < bytes_used(count) {
         return Err(WriteRefusal::Buffer);
     }
-    put_all(source, buffer);
-    Ok(used)
+    Ok(put_all(source, buffer))
 }

@@ -1,12 +1,12 @@
-use mathlib.Core.Path.{_≡_, ap, sym, _∙_}
-use Prim.Native.Nat.{ℕ, _*_, _/_, _%_, _-_, _^_, _<_}
+use mathlib.Core.Path.{ap, _∙_}
+use Prim.Native.Nat.{_/_, _%_, _-_, _<_}
 use native.Mathlib.Omega.{arith}
 use lib.ListN.{length, getD, set}
 use lib.Bits.{bitXor}
 use lib.Seq.{getD-set-other}
 use Rattle.std.proofs.shelf.Bits.{one-shl}
 use Rattle.packed.specs.Bits.{bitIn}
-use Rattle.packed.proofs.Flips.{flipped, flipped-there, flipped-other}
+use Rattle.packed.proofs.Flips.{flipped-there, flipped-other}
 use Rattle.packed.proofs.bits.put_bit.Needs as need
 
 pub returns-then-bit-at-b : need.returns-then-bit-at-b

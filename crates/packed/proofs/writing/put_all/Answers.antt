@@ -1,10 +1,12 @@
 use mathlib.Core.Path.{_≡_, sym, ap, _∙_}
-use Prim.Native.Nat.{ℕ, _+_, _-_, _*_, _/_, _<_, _≤_}
+use Prim.Native.Nat.{ℕ, _+_, _-_, _*_}
 use native.Mathlib.Omega.{arith}
-use lib.ListN.{length, getD}
+use lib.ListN.{length, getD, take}
 use Rattle.history.proofs.Numbered.{numbered-there}
 use Rattle.packed.specs.Bits.{bitIn}
 use Rattle.packed.specs.Layout.{words, size, eventWord}
+use Rattle.packed.specs.Writing.{overlaid}
+use Rattle.packed.proofs.Backs.{alone, front}
 use Rattle.packed.proofs.Grown.{at-fits, at-word, grown, whole-buffer}
 use Rattle.packed.proofs.Returns.{length-words}
 use Rattle.packed.proofs.writing.put_all.Needs as need
@@ -34,25 +36,29 @@ loop-i-again g c =
     ]
 
 -- the fill runs to the end of the last byte
-filled-up : (n e u : ℕ) → e ≡ 25 * (n + 1) → u ≡ size n → e + (8 * u - e) ≡ u * 8
-filled-up n e u a b = omega arith
+filled-up : (n : ℕ) → 25 * (n + 1) + (8 * size n - 25 * (n + 1)) ≡ size n * 8
+filled-up n = omega arith
 
 pub returns : need.returns
 returns g c =
     let es = g .S·Source .events (c .args .source .now) in
     let season = g .S·Source .season (c .args .source .now) in
     let n = c .count-count .result in
-    let end = c .bits-used-end .result in
-    let bytes = c .bytes-used .result in
     let used = size (length es) in
-    let used-is : bytes ≡ used = c .bytes-used .ensures ∙ ap size (c .count-count .ensures) in
+    let used-is : c .bytes-used .result ≡ used = c .bytes-used .ensures ∙ ap size (c .count-count .ensures) in
     let lw = length-words season es in
-    whole-buffer (c .args .bytes .now) (c .loop-i .bytes) (c .put-bits .last .bytes) (words season es) end (8 * bytes - end) used
+    let buffer = c .args .bytes .now in
+    let after : c .put-fill .last .bytes ≡ overlaid season es buffer = whole-buffer buffer (c .loop-i .bytes) (c .put-fill .last .bytes) (words season es) (25 * (n + 1)) (8 * size n - 25 * (n + 1)) used
     (λ k h. c .loop-i .inv .0 k (omega arith))
-    (c .put-bits .ensures)
-    (filled-up n end bytes (c .bits-used-end .ensures) (c .bytes-used .ensures) ∙ ap (λ u. u * 8) used-is)
+    (c .put-fill .ensures)
+    (filled-up n ∙ ap (λ n. size n * 8) (c .count-count .ensures))
     (omega arith)
-    (omega (arith, c .put-bits .kept .bytes, c .loop-i .kept .bytes, c .put-head .kept .bytes))
+    (omega (arith, c .put-fill .kept .bytes, c .loop-i .kept .bytes, c .put-head .kept .bytes))
     (c .pre .room)
     (λ j. c .typed .bytes j .fits)
-    (λ j h. c .put-bits .ensures .rest j (omega arith) ∙ c .loop-i .inv .1 j h ∙ c .put-head .ensures .rest j (omega arith))
+    (λ j h. c .put-fill .ensures .rest j (omega arith) ∙ c .loop-i .inv .1 j h ∙ c .put-head .ensures .rest j (omega arith)) in
+    record {
+      used = used-is;
+      after = after;
+      back = alone season es (c .pre .can) _ (ap (take (c .bytes-used .result)) after ∙ ap (λ u. take u (overlaid season es buffer)) used-is ∙ front season es (c .pre .can) buffer);
+    }
