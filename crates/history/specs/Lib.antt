@@ -1,5 +1,6 @@
--- What a reader has to believe: Lists, Layers, Rules, Preferences, Either.
+-- What a reader has to believe: Lists, Limits, Layers, Rules, Preferences, Either.
 pub mod Lists
+pub mod Limits
 pub mod Layers
 pub mod Rules
 pub mod Preferences

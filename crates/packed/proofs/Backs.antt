@@ -18,7 +18,8 @@ use Rattle.packed.specs.declared.fault.WriteRefusal.{WriteRefusal}
 use Rattle.packed.specs.Bits.{bitIn, field}
 use Rattle.packed.specs.Layout.{encode, size}
 use Rattle.packed.specs.Reading.{checked, seasonIn, eventIn, eventsIn, seasonBy, eventsBy, seasonMeant, eventsMeant, Accepted, Means, Bytes}
-use Rattle.packed.specs.Writing.{fitting, allFitting, Writable, writing, written, overlaid}
+use Rattle.history.specs.Limits.{withinLimits}
+use Rattle.packed.specs.Writing.{allFitting, Writable, writing, written, overlaid}
 use Rattle.packed.specs.RoundTrips.{MeansAlone, WrittenReadsBack, ReadWritesBack}
 use Rattle.packed.proofs.Fields.{bitIn-small, field-small}
 use Rattle.packed.proofs.Sound.{Sound, sound, accepts}
@@ -106,17 +107,17 @@ written-reads-back season es buffer used is =
     front-means season es (a .can) _ (ap (λ u. take u (overlaid season es buffer)) (a .used-is) ∙ front season es (a .can) buffer)
 
 -- what accepted bytes mean can be written
-each-fits : (f : ℕ → Event) → ((i : ℕ) → fitting (f i) ≡ true) → (is : List ℕ) → allFitting (map f is) ≡ true
+each-fits : (f : ℕ → Event) → ((i : ℕ) → withinLimits (f i) ≡ true) → (is : List ℕ) → allFitting (map f is) ≡ true
 each-fits f all [] = refl
 each-fits f all (i ∷ is) = ap (λ b. b && allFitting (map f is)) (all i) ∙ each-fits f all is
 
-event-fits : (bs : List ℕ) (k : ℕ) → fitting (eventIn bs k) ≡ true
+event-fits : (bs : List ℕ) (k : ℕ) → withinLimits (eventIn bs k) ≡ true
 event-fits bs k = four _ _ _ _ (small (k * 25) 1) (small (k * 25 + 1) 4) (small (k * 25 + 5) 6) (small (k * 25 + 11) 14)
   where
     small : (b w : ℕ) → field (bitIn 8 bs) b w < 2 ^ w
     small = field-small (bitIn 8 bs) (bitIn-small 8 bs)
 
-    four : (a b c d : ℕ) → a < 2 ^ 1 → b < 2 ^ 4 → c < 2 ^ 6 → d < 2 ^ 14 → fitting (record { kind = a; session = b; star = c; revision = d }) ≡ true
+    four : (a b c d : ℕ) → a < 2 ^ 1 → b < 2 ^ 4 → c < 2 ^ 6 → d < 2 ^ 14 → withinLimits (record { kind = a; session = b; star = c; revision = d }) ≡ true
     four a b c d ha hb hc hd = rw (le-leb a 1 (omega arith), le-leb b 15 (omega arith), le-leb c 63 (omega arith), le-leb d 16383 (omega arith))
 
 pub read-writable : (bs : List ℕ) → Sound bs → Writable (seasonIn bs) (eventsIn bs)

@@ -16,7 +16,8 @@ use Rattle.history.specs.Lists.{numbered}
 use Rattle.history.proofs.Numbered.{numbered-at}
 use Rattle.packed.specs.Bits.{bitOf, bitIn, grouped, Put}
 use Rattle.packed.specs.Layout.{eventWord, words}
-use Rattle.packed.specs.Writing.{fitting, allFitting}
+use Rattle.history.specs.Limits.{withinLimits}
+use Rattle.packed.specs.Writing.{allFitting}
 use Rattle.packed.proofs.Fields.{bitIn-at, grouped-is}
 use Rattle.packed.proofs.Returns.{no-bit, past-bit}
 
@@ -30,10 +31,10 @@ module _ (es : List Event) (i : ℕ) (e : Event) (at : numbered es (i + 1) ≡ S
       ap (λ n. getD (words season es) n 0) (add-one i)
       ∙ getD-map eventWord es i e 0 (numbered-at es i e at .0) ∙ ap eventWord (sym (numbered-at es i e at .1))
 
-  pub at-fits : allFitting es ≡ true → fitting e ≡ true
-  at-fits all = ap fitting (numbered-at es i e at .1) ∙ each es all i e (numbered-at es i e at .0)
+  pub at-fits : allFitting es ≡ true → withinLimits e ≡ true
+  at-fits all = ap withinLimits (numbered-at es i e at .1) ∙ each es all i e (numbered-at es i e at .0)
     where
-      each : (es : List Event) → allFitting es ≡ true → (k : ℕ) (d : Event) → k < length es → fitting (getD es k d) ≡ true
+      each : (es : List Event) → allFitting es ≡ true → (k : ℕ) (d : Event) → k < length es → withinLimits (getD es k d) ≡ true
       each [] all k d h = absurd (omega arith)
       each (x ∷ xs) all zero d h = and-parts _ _ all .0
       each (x ∷ xs) all (suc k) d h = each xs (and-parts _ _ all .1) k d (omega arith)

@@ -17,7 +17,8 @@ use Rattle.history.specs.declared.event.Event.{Event}
 use Rattle.packed.specs.Bits.{bitOf, bitIn, field}
 use Rattle.packed.specs.Layout.{headWord, eventWord, words, size, encode}
 use Rattle.packed.specs.Reading.{versionIn, seasonIn, countIn, eventIn, eventsIn}
-use Rattle.packed.specs.Writing.{fitting, allFitting, Writable}
+use Rattle.history.specs.Limits.{withinLimits}
+use Rattle.packed.specs.Writing.{allFitting, Writable}
 use Rattle.packed.proofs.Fields.{bitIn-small, field-same, bit-field, field-within, join, bit-grouped, grouped-is}
 use Rattle.packed.proofs.Sound.{Sound}
 
@@ -108,7 +109,7 @@ pub record Fits (e : Event) : Type 0 where
   pub star : e .star ≤ 63
   pub revision : e .revision ≤ 16383
 
-pub fits : (e : Event) → fitting e ≡ true → Fits e
+pub fits : (e : Event) → withinLimits e ≡ true → Fits e
 fits e h =
     let a = and-parts _ _ h in
     let b = and-parts _ _ (a .1) in

@@ -3,23 +3,20 @@ use mathlib.Core.Path.{_≡_}
 use mathlib.Core.Bool.{Bool, true, not, cond, _&&_}
 use mathlib.Core.List.{List, [], _∷_, _++_}
 use Prim.Native.Nat.{ℕ, _≤_}
-use lib.Dec.{ltb, leb}
+use lib.Dec.{ltb}
 use lib.ListN.{length, drop}
 use Rattle.std.specs.declared.result.Result.{Result}
 use Rattle.std.specs.declared.result.Result.the-variants.{Ok, Err}
 use Rattle.history.specs.declared.event.Event.{Event}
+use Rattle.history.specs.Limits.{withinLimits}
 use Rattle.packed.specs.declared.fault.WriteRefusal.{WriteRefusal}
 use Rattle.packed.specs.declared.fault.WriteRefusal.the-variants.{Long, Outside, Season, Buffer}
 use Rattle.packed.specs.Layout.{size, encode}
 
--- Each field of the event fits the bits that it has.
-abbrev pub fitting : Event → Bool
-fitting e = leb (e .kind) 1 && (leb (e .session) 15 && (leb (e .star) 63 && leb (e .revision) 16383))
-
--- That holds of every event.
+-- Every event is within the limits.
 abbrev pub allFitting : List Event → Bool
 allFitting [] = true
-allFitting (e ∷ es) = fitting e && allFitting es
+allFitting (e ∷ es) = withinLimits e && allFitting es
 
 -- A season and events that a file has room for.
 pub record Writable (season : ℕ) (es : List Event) : Type 0 where

@@ -2,9 +2,10 @@ ghost use mathlib.Core.Path.{_≡_};
 ghost use mathlib.Core.Bool.{true};
 ghost use Prim.Native.Nat.{_+_, _-_, _*_, _≤_};
 ghost use lib.ListN.{length, take};
+ghost use Rattle.history.specs.Limits.{withinLimits};
 ghost use Rattle.packed.specs.Bits.{Put};
 ghost use Rattle.packed.specs.Layout.{headWord, eventWord, size};
-ghost use Rattle.packed.specs.Writing.{fitting, allFitting, Writable, overlaid, writing, written};
+ghost use Rattle.packed.specs.Writing.{allFitting, Writable, overlaid, writing, written};
 ghost use Rattle.packed.specs.RoundTrips.{MeansAlone, ReadsBack};
 use crate::bits::put_bits;
 use crate::fault::WriteRefusal;
@@ -13,20 +14,13 @@ use crate::header::bytes_used;
 use history::Event;
 use history::Source;
 
-/// Whether each field of an event has room in a packed file.
-fn fits(e: Event) -> bool
-    ensures { λ r. ⌜ r ≡ fitting e ⌝ }
-{
-    e.kind <= 1 && e.session <= 15 && e.star <= 63 && e.revision <= 16383
-}
-
-/// Whether that holds of all events of a source.
+/// Whether all events of a source fit.
 fn all_fit<S: Source>(source: &S) -> bool
     ensures { λ r. ⌜ r ≡ allFitting (events (now (source .entry))) ⌝ }
 {
     for i in 0..source.count() {
         if let Some(e) = source.event(i + 1) {
-            if !fits(e) {
+            if !e.fits() {
                 return false;
             }
         }
@@ -49,7 +43,7 @@ fn put_head(bytes: &mut [u8], season: u16, count: u16)
 /// Writes the event with a number.
 fn put_event(bytes: &mut [u8], number: u16, e: Event)
     requires inside { ⌜ number * 25 + 25 ≤ 8 * length (now bytes) ⌝ }
-    requires fits { ⌜ fitting e ≡ true ⌝ }
+    requires fits { ⌜ withinLimits e ≡ true ⌝ }
     ensures { λ _. ⌜ Put (now (bytes .entry)) (now (bytes .exit)) (number * 25) 25 (eventWord e) ⌝ }
 {
     let at = number as usize * 25;

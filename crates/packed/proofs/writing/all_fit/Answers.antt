@@ -6,7 +6,8 @@ use lib.ListN.{drop}
 use Rattle.std.proofs.shelf.Lists.{drop-all}
 use Rattle.std.proofs.shelf.Tests.{and-left}
 use Rattle.history.proofs.Numbered.{numbered-there}
-use Rattle.packed.specs.Writing.{allFitting, fitting}
+use Rattle.history.specs.Limits.{withinLimits}
+use Rattle.packed.specs.Writing.{allFitting}
 use Rattle.packed.proofs.Grown.{at-drop}
 use Rattle.packed.proofs.writing.all_fit.Needs as need
 use Rattle.packed.proofs.writing.all_fit.Needs.{in-Some·else-not-fits, in-rest}
@@ -16,7 +17,7 @@ returns-then-not-fits g c =
     let es = g .S·Source .events (c .args .source .now) in
     let i = c .loop-i .i in
     let e = c .in-Some .e in
-    sym (c .loop-i .inv ∙ ap allFitting (at-drop es i e (sym (c .in-Some .ensures tt))) ∙ and-left (fitting e) (allFitting (drop (i + 1) es)) (sym (c .if-not-fits .ensures tt)))
+    sym (c .loop-i .inv ∙ ap allFitting (at-drop es i e (sym (c .in-Some .ensures tt))) ∙ and-left (withinLimits e) (allFitting (drop (i + 1) es)) (sym (c .if-not-fits .ensures tt)))
 
 pub loop-i-again : need.loop-i-again
 loop-i-again g c =
