@@ -67,7 +67,7 @@ judges-serial {h} {S} {Q} {t} budget well acc inside s l =
       decided = λ p c x. inl refl;
     }
 
-judges-once : {h : History} {S : List (ℕ × ℕ)} {budget : ℕ} (v w : Verdict) (s u : ℕ) → Judges h S budget v s → Judges h S budget w u → (w ≡ v) × (u ≡ s)
+pub judges-once : {h : History} {S : List (ℕ × ℕ)} {budget : ℕ} (v w : Verdict) (s u : ℕ) → Judges h S budget v s → Judges h S budget w u → (w ≡ v) × (u ≡ s)
 judges-once {h} {S} {budget} v w s u j k =
     let e = one (k .search) (j .search) .0 in (
       go v e (j .serial-when .0) (j .none-when .0) (j .spent-when .0),

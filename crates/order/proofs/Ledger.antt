@@ -41,7 +41,8 @@ accepted-writes h L a b t =
     differ : eqb a b ≡ false → a ≢ b
     differ e d = grind arith
 
-abbrev AllWrites : History → List (ℕ × ℕ) → Type 0
+-- Every pair of a list is two writes of one star.
+abbrev pub AllWrites : History → List (ℕ × ℕ) → Type 0
 AllWrites h L = (a b : ℕ) → List·Memᴰ (a, b) L → TwoWrites h a b
 
 member-take : {x : ℕ × ℕ} (n : ℕ) (L : List (ℕ × ℕ)) → List·Memᴰ x (take n L) → List·Memᴰ x L
@@ -53,7 +54,7 @@ member-take (suc n) (q ∷ qs) m = go (List·Memᴰ·cases-cons m) (member-take 
     go (inl e) ih = List·Memᴰ·head e
     go (inr k) ih = List·Memᴰ·tail (ih k)
 
-enters : (h : History) (L : List (ℕ × ℕ)) (c : Call) → AllWrites h L → AllWrites h (entered h L c)
+pub enters : (h : History) (L : List (ℕ × ℕ)) (c : Call) → AllWrites h L → AllWrites h (entered h L c)
 enters h L (stipulate a b) r = go (accepts (stipulateAnswer h L a b)) refl
   where
     go : (v : Bool) → accepts (stipulateAnswer h L a b) ≡ v → AllWrites h (cond v (L ++ ((a, b) ∷ [])) L)

@@ -20,3 +20,4 @@ pub mod Runs
 pub mod Ledger
 pub mod Certificate
 pub mod Worked
+pub mod Determined

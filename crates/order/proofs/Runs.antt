@@ -31,14 +31,15 @@ data Effect (t : Turn) : Type 0 where
   ends : ((s : State) → moved s (t .answer) ≡ unjudged) → T (endsVerdict (t .call)) → T (accepts (t .answer)) → ((v : Verdict) (n : ℕ) → t .answer ≡ judged v n → ⊥) → Effect t
   gives : (v : Verdict) (budget steps : ℕ) → t .call ≡ judge budget → t .answer ≡ judged v steps → Effect t
 
-abbrev Plain : Answer → Type 0
+-- What stipulate can answer.
+abbrev pub Plain : Answer → Type 0
 Plain r = (r ≡ stipulated) ⊎ ((n : ℕ) × (r ≡ refused n))
 
 plain : (b : Bool) (n : ℕ) (r : Answer) → Plain r → Plain (cond b (refused n) r)
 plain true n r p = inr (n, refl)
 plain false n r p = p
 
-stipulate-plain : (h : History) (L : List (ℕ × ℕ)) (a b : ℕ) → Plain (stipulateAnswer h L a b)
+pub stipulate-plain : (h : History) (L : List (ℕ × ℕ)) (a b : ℕ) → Plain (stipulateAnswer h L a b)
 stipulate-plain h L a b =
     plain (not (isNumber h a && isNumber h b)) 21 _ (
     plain (not (isWrite (at h a) && isWrite (at h b))) 22 _ (

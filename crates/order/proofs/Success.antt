@@ -119,14 +119,16 @@ module _ (h : History) (S Q : List (ℕ × ℕ)) (t : ℕ) (well : WellFormed h)
 same-node : {P Q : List (ℕ × ℕ)} → succeeds P ≡ succeeds Q → P ≡ Q
 same-node e = cc
 
+-- What show shows is one order.
+pub shows-once : {h : History} {S : List (ℕ × ℕ)} {f : Preference} {σ τ : List ℕ} → Shows h S f σ → Shows h S f τ → σ ≡ τ
+shows-once {h} {S} {f} {σ} {τ} s t =
+    placing-is-one h (t .node) f σ τ (subst (λ z. Placed h z f σ) (same-node (one (s .search) (t .search) .1)) (s .placed)) (t .placed)
+
 pub placing-is-best : PlacingIsBest
 placing-is-best h S Q t f well acc inside s =
-    let r = placed-there h S Q t well acc inside s f in (
-      r .0,
-      r .1,
-      placed-shows h S Q t well acc inside s (r .1),
-      λ τ w. placing-is-one h Q f τ (r .0) (subst (λ z. Placed h z f τ) (same-node (one (w .search) s .1)) (w .placed)) (r .1),
-    )
+    let r = placed-there h S Q t well acc inside s f in
+    let w = placed-shows h S Q t well acc inside s (r .1) in
+    (r .0, r .1, λ τ p. placing-is-one h Q f τ (r .0) p (r .1), w, λ τ v. shows-once v w)
 
 pub search-decides : SearchDecides
 search-decides h S t well acc inside = (λ s. failure-leaves-none acc s, λ Q s. success-has-one h S Q t well acc inside s)

@@ -11,7 +11,7 @@ use Rattle.order.specs.History.{History, historyOf}
 use Rattle.order.specs.Search.{fails, succeeds}
 use Rattle.order.specs.Opening.{opening, accepted}
 use Rattle.order.specs.Calls.{Preference, serial, none, Shows}
-use Rattle.order.specs.Worked.{by-number, by-star, oneWrite, crossed, twoWrites, opposite, ownMissed, hidden, Judged, WorkedCases}
+use Rattle.order.specs.Worked.{by-number, by-star, oneWrite, crossed, twoWrites, opposite, ownMissed, twoStars, hidden, Judged, WorkedCases}
 use Rattle.order.proofs.Opens.{opening-accepts}
 use Rattle.order.proofs.Certificate.{well-formed, eventPairs, event-pairs-e, Node, Tree, clashes, succeeds-here, lower-first, then-higher, nodes, Checks, searched, Places, placed}
 use Rattle.order.proofs.Judge.{judges-serial, judges-none, judges-spent}
@@ -54,6 +54,12 @@ R-lower = (18, 18) ∷ (18, 17) ∷ (18, 15) ∷ (18, 14) ∷ (15, 18) ∷ (15, 
 abbrev R-higher : List (ℕ × ℕ)
 R-higher = (18, 18) ∷ (18, 17) ∷ (18, 15) ∷ (18, 14) ∷ (15, 18) ∷ (15, 17) ∷ (10, 18) ∷ (10, 17) ∷ (10, 16) ∷ (10, 15) ∷ (10, 14) ∷ (10, 13) ∷ (10, 6) ∷ (10, 5) ∷ (10, 4) ∷ (9, 18) ∷ (9, 17) ∷ (9, 16) ∷ (9, 15) ∷ (9, 14) ∷ (9, 13) ∷ (9, 6) ∷ (9, 5) ∷ (9, 4) ∷ (8, 18) ∷ (8, 17) ∷ (8, 16) ∷ (8, 14) ∷ (8, 13) ∷ (8, 6) ∷ (8, 5) ∷ (8, 4) ∷ (7, 17) ∷ (7, 16) ∷ (7, 14) ∷ (7, 13) ∷ (7, 6) ∷ (7, 5) ∷ (7, 4) ∷ (11, 18) ∷ (11, 17) ∷ (11, 16) ∷ (11, 15) ∷ (11, 14) ∷ (11, 13) ∷ (11, 6) ∷ (11, 5) ∷ (11, 4) ∷ (11, 3) ∷ (11, 2) ∷ (10, 3) ∷ (10, 2) ∷ (9, 12) ∷ (9, 11) ∷ (8, 12) ∷ (8, 11) ∷ (8, 10) ∷ (8, 3) ∷ (8, 2) ∷ (8, 1) ∷ (7, 15) ∷ (7, 12) ∷ (7, 11) ∷ (7, 10) ∷ (7, 3) ∷ (7, 2) ∷ (7, 1) ∷ (6, 18) ∷ (6, 17) ∷ (6, 15) ∷ (6, 14) ∷ (5, 18) ∷ (5, 17) ∷ (5, 16) ∷ (5, 15) ∷ (5, 14) ∷ (5, 13) ∷ (4, 18) ∷ (4, 17) ∷ (4, 16) ∷ (4, 15) ∷ (4, 14) ∷ (4, 13) ∷ (4, 12) ∷ (4, 2) ∷ (17, 18) ∷ (16, 18) ∷ (16, 17) ∷ (14, 15) ∷ (13, 15) ∷ (13, 14) ∷ (12, 3) ∷ (12, 2) ∷ (11, 12) ∷ (10, 12) ∷ (10, 11) ∷ (9, 10) ∷ (9, 3) ∷ (9, 2) ∷ (9, 1) ∷ (8, 15) ∷ (8, 9) ∷ (7, 18) ∷ (7, 9) ∷ (7, 8) ∷ (6, 16) ∷ (6, 13) ∷ (5, 12) ∷ (5, 6) ∷ (5, 3) ∷ (5, 2) ∷ (4, 6) ∷ (4, 5) ∷ (4, 3) ∷ (2, 3) ∷ (1, 3) ∷ (1, 2) ∷ []
 
+abbrev R-stars : List (ℕ × ℕ)
+R-stars = (5, 6) ∷ (4, 3) ∷ (2, 3) ∷ (1, 6) ∷ []
+
+abbrev R-stars-lower : List (ℕ × ℕ)
+R-stars-lower = (5, 4) ∷ (5, 3) ∷ (5, 2) ∷ (1, 3) ∷ (6, 3) ∷ (6, 2) ∷ (5, 6) ∷ (4, 3) ∷ (2, 3) ∷ (1, 6) ∷ (1, 2) ∷ []
+
 n-one-write : Node (historyOf oneWrite strict) [] R-one-write
 n-one-write = record { well = well-formed oneWrite strict; inside = tt; supports = tt; closed = tt; no-clash = tt }
 
@@ -72,6 +78,12 @@ n-lower = record { well = well-formed twoWrites strict; inside = tt; supports = 
 n-higher : Node (historyOf twoWrites strict) ((2, 1) ∷ []) ((2, 1) ∷ [])
 n-higher = record { well = well-formed twoWrites strict; inside = tt; supports = tt; closed = tt; no-clash = tt }
 
+n-stars : Node (historyOf twoStars strict) [] R-stars
+n-stars = record { well = well-formed twoStars strict; inside = tt; supports = tt; closed = tt; no-clash = tt }
+
+n-stars-lower : Node (historyOf twoStars strict) ((1, 2) ∷ []) R-stars-lower
+n-stars-lower = record { well = well-formed twoStars strict; inside = tt; supports = tt; closed = tt; no-clash = tt }
+
 n-hidden : Node (historyOf hidden strict) [] R-hidden
 n-hidden = record { well = well-formed hidden strict; inside = tt; supports = tt; closed = tt; no-clash = tt }
 
@@ -80,6 +92,12 @@ t-two = lower-first [] 1 2 (succeeds-here ((1, 2) ∷ []))
 
 c-two : Checks (historyOf twoWrites strict) [] t-two (succeeds ((1, 2) ∷ []))
 c-two = (n-two, tt, ((1, 2) ∷ [], refl, (n-lower, tt, refl)))
+
+abbrev t-stars : Tree
+t-stars = lower-first R-stars 1 2 (succeeds-here R-stars-lower)
+
+c-stars : Checks (historyOf twoStars strict) [] t-stars (succeeds ((1, 2) ∷ []))
+c-stars = (n-stars, tt, ((1, 2) ∷ [], refl, (n-stars-lower, tt, refl)))
 
 pub worked-cases : WorkedCases
 worked-cases = record {
@@ -117,6 +135,11 @@ worked-cases = record {
   opposite-star = says-none opposite sameStar [] refl (clashes R-opposite 6) (tt, tt, refl);
   own-missed-strict = says-none ownMissed strict [] refl (clashes R-own 2) (tt, tt, refl);
   own-missed-lag = says-none ownMissed lag [] refl (clashes R-own 2) (tt, tt, refl);
+  two-stars = (
+    says-serial twoStars strict [] refl ((1, 2) ∷ []) t-stars tt c-stars,
+    says-shown twoStars strict [] refl ((1, 2) ∷ []) R-stars-lower by-number (1 ∷ 5 ∷ 4 ∷ 6 ∷ 2 ∷ 3 ∷ []) t-stars tt c-stars
+        (record { node = n-stars-lower; long = refl; each = tt; only = tt; keeps = tt; preferred = tt }),
+  );
   hidden-clash = says-none hidden strict [] refl (then-higher R-hidden 2 5 (clashes R-lower 18) (clashes R-higher 18)) (n-hidden, tt, (tt, tt, refl), (tt, tt, refl));
   written-twice = refl;
   never-written = refl;

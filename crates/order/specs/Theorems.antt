@@ -11,7 +11,7 @@ use Rattle.order.specs.Orders.{Order, Earlier, Serial, SerialByReads, Fitting,
 use Rattle.order.specs.Before.{Before, Clash, HasRules}
 use Rattle.order.specs.Search.{Search, Outcome, fails, succeeds, CountsUnordered}
 use Rattle.order.specs.Opening.{opening, accepted, Accepted}
-use Rattle.order.specs.Calls.{Preference, Verdict, Judges, Placed, Shows, Turn, Held, opened, Run, Leaves, LawOverRuns}
+use Rattle.order.specs.Calls.{Preference, Verdict, Judges, Placed, Shows, Call, Turn, callsOf, Held, opened, Run, Leaves, LawOverRuns}
 
 -- The history that events and a rule mean is well formed.
 abbrev pub HistoriesAreWellFormed : Type 0
@@ -63,13 +63,13 @@ JudgeIsDecided =
     ((w : Verdict) (u : ℕ) → Judges h S budget w u → (w ≡ v) × (u ≡ steps))
 
 -- At a successful node the order that places, again and again, the most preferred event whose predecessors are all placed
--- exists, it is the only one, and it is what show shows: a fitting order with the node's order of writes for each star,
+-- exists, it is the only one, and it is the one thing that show shows: a fitting order with the node's order of writes for each star,
 -- better than every other fitting order with that order of writes.
 abbrev pub PlacingIsBest : Type 0
 PlacingIsBest =
     (h : History) (S Q : List (ℕ × ℕ)) (t : ℕ) (f : Preference) → WellFormed h → Accepted h → PairsOfEvents h S →
     Search h S t (succeeds Q) →
-    (σ : List ℕ) × Placed h Q f σ × Shows h S f σ × ((τ : List ℕ) → Shows h S f τ → τ ≡ σ)
+    (σ : List ℕ) × Placed h Q f σ × ((τ : List ℕ) → Placed h Q f τ → τ ≡ σ) × Shows h S f σ × ((τ : List ℕ) → Shows h S f τ → τ ≡ σ)
 
 -- The two wordings of serial agree.
 abbrev pub SerialWordingsAgree : Type 0
@@ -78,3 +78,10 @@ SerialWordingsAgree = (h : History) (σ : List ℕ) → Accepted h → Order (co
 -- Calls that each keep their contract make a run that keeps the law over runs, and leave what the law says stands.
 abbrev pub RunsAreLawful : Type 0
 RunsAreLawful = (h : History) (turns : List Turn) (m : Held) → Run h opened turns m → LawOverRuns h turns × Leaves h turns m
+
+-- The law over runs leaves nothing free: for every list of calls there is exactly one list of turns that keeps it.
+abbrev pub LawDecidesRuns : Type 0
+LawDecidesRuns =
+    (h : History) (calls : List Call) → WellFormed h → Accepted h →
+    (turns : List Turn) × (callsOf turns ≡ calls) × LawOverRuns h turns ×
+    ((others : List Turn) → callsOf others ≡ calls → LawOverRuns h others → others ≡ turns)

@@ -44,6 +44,10 @@ opposite = R 0 0 1 ∷ R 0 0 2 ∷ R 1 0 2 ∷ R 1 0 1 ∷ W 2 0 1 ∷ W 3 0 2 �
 abbrev pub ownMissed : List Event
 ownMissed = W 0 0 1 ∷ R 0 0 0 ∷ []
 
+-- Two writes of each of two stars, where the order of the one pair forces that of the other.
+abbrev pub twoStars : List Event
+twoStars = W 0 0 1 ∷ W 1 0 2 ∷ R 1 1 1 ∷ W 2 1 1 ∷ W 3 1 2 ∷ R 3 0 1 ∷ []
+
 -- Six sessions and five stars: before has no clash at first, and has one whichever of the two writes of star 1 comes first.
 abbrev pub hidden : List Event
 hidden =
@@ -72,6 +76,7 @@ pub record WorkedCases : Type 0 where
   pub opposite-star : Judged (historyOf opposite sameStar) [] none 1
   pub own-missed-strict : Judged (historyOf ownMissed strict) [] none 1
   pub own-missed-lag : Judged (historyOf ownMissed lag) [] none 1
+  pub two-stars : Judged (historyOf twoStars strict) [] serial 2 × Shows (historyOf twoStars strict) [] by-number (1 ∷ 5 ∷ 4 ∷ 6 ∷ 2 ∷ 3 ∷ [])
   pub hidden-clash : Judged (historyOf hidden strict) [] none 3
   pub written-twice : opening (W 0 0 1 ∷ W 1 0 1 ∷ []) ≡ fault 14 2
   pub never-written : opening (R 0 0 5 ∷ []) ≡ fault 15 1

@@ -3,7 +3,7 @@
 //! The definitions stand in `specs/`. A function here does nothing: its contract is a theorem, and it
 //! is proved.
 
-ghost use Rattle.order.specs.Theorems.{HistoriesAreWellFormed, OpeningAccepts, SerialWordingsAgree, BeforeIsSmallest, FittingKeepsBefore, SearchEnds, SearchIsBounded, SearchDecides, JudgeIsDecided, PlacingIsBest, RunsAreLawful};
+ghost use Rattle.order.specs.Theorems.{HistoriesAreWellFormed, OpeningAccepts, SerialWordingsAgree, BeforeIsSmallest, FittingKeepsBefore, SearchEnds, SearchIsBounded, SearchDecides, JudgeIsDecided, PlacingIsBest, RunsAreLawful, LawDecidesRuns};
 ghost use Rattle.order.specs.Worked.{WorkedCases};
 
 /// The history that events and a rule mean is well formed.
@@ -59,6 +59,11 @@ pub fn placing_is_best()
 /// Calls that each keep their contract make a run that keeps the law over runs.
 pub fn runs_are_lawful()
     ensures { λ _. ⌜ RunsAreLawful ⌝ }
+{}
+
+/// The law over runs leaves nothing free: every list of calls has exactly one list of answers.
+pub fn law_decides_runs()
+    ensures { λ _. ⌜ LawDecidesRuns ⌝ }
 {}
 
 /// The worked cases come out as they should.
