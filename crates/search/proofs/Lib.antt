@@ -1,0 +1,15 @@
+pub mod Words
+pub mod Pops
+pub mod Counts
+pub mod Backs
+pub mod Slacks
+pub mod Links
+pub mod Joins
+pub mod Trails
+pub mod Steps
+pub mod Bridges
+pub mod Addings
+pub mod Opens
+pub mod Trees
+pub mod Ways
+pub mod Memory

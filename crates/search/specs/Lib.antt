@@ -1,0 +1,11 @@
+pub mod Bits
+pub mod Sets
+pub mod Rows
+pub mod Orders
+pub mod Relations
+pub mod Laws
+pub mod Nodes
+pub mod Adding
+pub mod Tree
+pub mod Walks
+pub mod Searches

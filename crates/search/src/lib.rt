@@ -1,0 +1,8 @@
+//! Sets of events, a relation between events that takes its changes back, and what the rules of a history force
+//! in it.
+pub mod relation;
+pub mod saturate;
+pub mod set;
+pub mod table;
+pub mod tree;
+pub mod walk;
