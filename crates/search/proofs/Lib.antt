@@ -13,3 +13,7 @@ pub mod Opens
 pub mod Trees
 pub mod Ways
 pub mod Memory
+pub mod Closes
+pub mod Gaps
+pub mod Raises
+pub mod Fills

@@ -9,3 +9,4 @@ pub mod Adding
 pub mod Tree
 pub mod Walks
 pub mod Searches
+pub mod Closures

@@ -1,5 +1,6 @@
 //! Sets of events, a relation between events that takes its changes back, and what the rules of a history force
 //! in it.
+pub mod closure;
 pub mod relation;
 pub mod saturate;
 pub mod set;

@@ -6,6 +6,7 @@ ghost use lib.ListN.{length, getD};
 ghost use Rattle.search.specs.Rows.{inRows};
 use crate::set::EventSet;
 
+mod closing;
 mod filling;
 mod nodes;
 mod rules;
