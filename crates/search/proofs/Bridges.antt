@@ -1,25 +1,20 @@
 -- What a relation of events, numbered from 0, and the facts have to do with before, in which they are numbered from 1.
-use mathlib.Core.Path.{_≡_, refl, sym, ap, subst, _∙_}
-use mathlib.Core.List.{List, _∷_, List·Memᴰ, List·Memᴰ·head, List·Memᴰ·tail, List·Memᴰ·cases-cons}
-use mathlib.Core.Logic.{inl, inr, _⊎_, _↔_}
+use mathlib.Core.Path.{_≡_, sym, ap, _∙_}
+use mathlib.Core.List.{List, List·Memᴰ}
+use mathlib.Core.Logic.{_↔_}
 use mathlib.Core.Bool.{Bool, true, false}
-use Prim.Native.Nat.{ℕ, zero, suc, _+_, _<_, _≤_}
+use Prim.Native.Nat.{ℕ, zero, suc, _≤_}
 use native.Mathlib.Omega.{arith}
-use lib.ListN.{getD}
 use lib.Dec.{T}
-use Rattle.std.specs.Orderings.{When}
-use Rattle.order.specs.History.{History, count, starOf, Number, WellFormed, PairsOfEvents, Write, FromStart, TakesFrom, TwoWrites}
+use Rattle.order.specs.History.{History, count, starOf, WellFormed, PairsOfEvents, Write, FromStart, TakesFrom, TwoWrites}
 use Rattle.order.specs.Before.{Before, Clash, HasRules}
-use Rattle.order.specs.Search.{Unordered, FirstUnordered}
 use Rattle.order.proofs.Tests.{is-true, true-is}
 use Rattle.order.proofs.Smallest.{smallest}
 use Rattle.order.proofs.Saturated.{before?, before-e, before-i}
-use Rattle.order.proofs.Ends.{grows, inside-more}
 use Rattle.search.specs.Orders.{Transitive, Within}
-use Rattle.search.specs.Relations.{earlier, Idle, Linked, Cyclic}
-use Rattle.search.specs.Laws.{Closed, Doomed, Saturated}
+use Rattle.search.specs.Relations.{earlier, Idle}
+use Rattle.search.specs.Laws.{Closed, Doomed}
 use Rattle.search.specs.Nodes.{Exact, FactsOf}
-use Rattle.search.specs.Adding.{OpenFrom}
 use Rattle.search.specs.declared.relation.Relation.{Relation}
 use Rattle.search.specs.declared.saturate.Facts.{Facts}
 

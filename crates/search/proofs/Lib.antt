@@ -17,3 +17,7 @@ pub mod Closes
 pub mod Gaps
 pub mod Raises
 pub mod Fills
+pub mod Notes
+pub mod Records
+pub mod Roots
+pub mod Turns

@@ -1,11 +1,11 @@
 -- The pairs of writes that a relation which is exactly before leaves unordered.
-use mathlib.Core.Path.{_≡_, refl, sym, ap, subst, _∙_}
+use mathlib.Core.Path.{_≡_, sym, ap, subst, _∙_}
 use mathlib.Core.List.{List}
 use mathlib.Core.Logic.{inl, inr, _⊎_}
-use mathlib.Core.Bool.{Bool, true, false}
-use Prim.Native.Nat.{ℕ, zero, suc, _+_, _<_, _≤_}
+use mathlib.Core.Bool.{true, false}
+use Prim.Native.Nat.{ℕ, suc, _<_, _≤_}
 use native.Mathlib.Omega.{arith}
-use Rattle.std.proofs.shelf.Tests.{true≢false, cases-bool, cases-order, cases-lt}
+use Rattle.std.proofs.shelf.Tests.{true≢false, cases-bool, cases-order}
 use Rattle.order.specs.History.{History, TwoWrites}
 use Rattle.order.specs.Before.{Before}
 use Rattle.order.specs.Search.{Unordered, FirstUnordered, Complete}

@@ -10,3 +10,7 @@ pub mod Tree
 pub mod Walks
 pub mod Searches
 pub mod Closures
+pub mod Histories
+pub mod Recorded
+pub mod Noting
+pub mod Rooting
