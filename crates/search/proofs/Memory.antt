@@ -72,11 +72,50 @@ walk-most p N T q a hp hN hT hq ha =
     chain : {f r x y z w v : ℕ} → f ≤ 3 * p + N * 2 + 60 → r ≤ 2 * (p + T * 2 + q) + a + 200 → x ≤ 0 + f + 8 → y ≤ x + r + 4 → z ≤ y + T * 16 + 8 → w ≤ z + 8 + 1 → v ≤ w + 1 + 8 → v < 2 ^ 63
     chain f r x y z w v = omega arith
 
-pub walk-small : (N W T : ℕ) → N ≤ 64 * W → W ≤ 1024 → T < 2 ^ 32 → walk (N * up 8 (0 + W * 8)) N T (T * up 8 (0 + W * 8)) (up 8 (0 + W * 8)) < 2 ^ 63
-walk-small N W T wide narrow short =
-    let a : up 8 (0 + W * 8) ≤ 8200 = row (most 8 (0 + W * 8) (omega arith)) in
-    walk-most _ N T _ _ (mul-le-mul {n₁ = N} {m₁ = up 8 (0 + W * 8)} {n₂ = 65536} {m₂ = 8200} (omega arith) a) (omega arith) short
-    (mul-le-mul {n₁ = T} {m₁ = up 8 (0 + W * 8)} {n₂ = 2 ^ 32} {m₂ = 8200} (omega arith) a) a
+-- the record of a case: six bytes for each of N events, a number, and p bytes of rows
+abbrev case : ℕ → ℕ → ℕ
+case p N = up 8 (up 8 (up 8 (0 + N * 6) + 8) + p)
+
+case-most : (p N : ℕ) → case p N ≤ N * 6 + p + 40
+case-most p N =
+    let a = most 8 (0 + N * 6) (omega arith) in
+    let b = most 8 (up 8 (0 + N * 6) + 8) (omega arith) in
+    let c = most 8 (up 8 (up 8 (0 + N * 6) + 8) + p) (omega arith) in
+    chain a b c
   where
-    row : {x : ℕ} → x ≤ 0 + W * 8 + 8 → x ≤ 8200
-    row h = omega arith
+    chain : {x y z : ℕ} → x ≤ 0 + N * 6 + 8 → y ≤ x + 8 + 8 → z ≤ y + p + 8 → z ≤ N * 6 + p + 40
+    chain a b c = omega arith
+
+module _ (N W T : ℕ) (wide : N ≤ 64 * W) (narrow : W ≤ 1024) where
+  row-most : up 8 (0 + W * 8) ≤ 8200
+  row-most = row (most 8 (0 + W * 8) (omega arith))
+    where
+      row : {x : ℕ} → x ≤ 0 + W * 8 + 8 → x ≤ 8200
+      row h = omega arith
+
+  rows-most : N * up 8 (0 + W * 8) ≤ 65536 * 8200
+  rows-most = mul-le-mul {n₁ = N} {m₁ = up 8 (0 + W * 8)} {n₂ = 65536} {m₂ = 8200} (omega arith) row-most
+
+  olds-most : T < 2 ^ 32 → T * up 8 (0 + W * 8) ≤ 2 ^ 32 * 8200
+  olds-most short = mul-le-mul {n₁ = T} {m₁ = up 8 (0 + W * 8)} {n₂ = 2 ^ 32} {m₂ = 8200} (omega arith) row-most
+
+  pub case-small : case (N * up 8 (0 + W * 8)) N < 2 ^ 63
+  case-small = chain (case-most _ N) rows-most
+    where
+      chain : {x p : ℕ} → x ≤ N * 6 + p + 40 → p ≤ 65536 * 8200 → x < 2 ^ 63
+      chain a b = omega arith
+
+  pub facts-small : facts (N * up 8 (0 + W * 8)) N < 2 ^ 63
+  facts-small = chain (facts-most _ N) rows-most
+    where
+      chain : {x p : ℕ} → x ≤ 3 * p + N * 2 + 60 → p ≤ 65536 * 8200 → x < 2 ^ 63
+      chain a b = omega arith
+
+  pub relation-small : T < 2 ^ 32 → relation (N * up 8 (0 + W * 8)) T (T * up 8 (0 + W * 8)) (up 8 (0 + W * 8)) < 2 ^ 63
+  relation-small short = chain (relation-most _ T _ _) rows-most (olds-most short) row-most
+    where
+      chain : {x p q a : ℕ} → x ≤ 2 * (p + T * 2 + q) + a + 200 → p ≤ 65536 * 8200 → q ≤ 2 ^ 32 * 8200 → a ≤ 8200 → x < 2 ^ 63
+      chain a b c d = omega arith
+
+  pub walk-small : T < 2 ^ 32 → walk (N * up 8 (0 + W * 8)) N T (T * up 8 (0 + W * 8)) (up 8 (0 + W * 8)) < 2 ^ 63
+  walk-small short = walk-most _ N T _ _ rows-most (omega arith) short (olds-most short) row-most

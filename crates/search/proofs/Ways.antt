@@ -22,7 +22,7 @@ use Rattle.search.specs.Laws.{Closed}
 use Rattle.search.specs.Nodes.{Exact, FactsOf}
 use Rattle.search.specs.Adding.{Added, OpenFrom, FirstOpen, NoneOpen}
 use Rattle.search.specs.Tree.{Waiting, Follows, Comes}
-use Rattle.search.specs.Walks.{latest, choicesOf, nodeOf, waitingOf, fromOf, Room, Back, Chosen, Way, Along, Next, Ahead, Walking, Entered, Clashed, Successful}
+use Rattle.search.specs.Walks.{latest, choicesOf, nodeOf, waitingOf, fromOf, Room, Back, Chosen, Way, Along, Next, Ahead, Begins, Walking, Entered, Clashed, Successful}
 use Rattle.search.specs.declared.relation.Relation.{Relation}
 use Rattle.search.specs.declared.saturate.Facts.{Facts}
 use Rattle.search.specs.declared.walk.Choice.{Choice}
@@ -352,3 +352,21 @@ module _ {N W T : ℕ} (h : History) where
         let cs = choicesOf w in
         let a = k .along in
         comes-more h S (waitingOf S cs) (nodeOf S cs) s (a .well) (way-pairs (w .relation) cs (a .pairs) (a .way)) (way-proper (w .relation) cs (a .pairs) (a .way)) (k .comes)
+
+    -- a walk begins
+    pub begins-walking : (f : Facts N W) (o : Relation N W T) (b : Bool) (w : Walk N W T) → WellFormed h → PairsOfEvents h S → FactsOf h f →
+        When b (Clash h S) (Exact h S o) → Begins f o b w → Walking h S 0 w
+    begins-walking f o b w well pairs facts first e =
+        let none : choicesOf w ≡ [] = ap (latest (w .choices)) (e .none) in
+        let there : When (w .clashed) (Clash h S) (Exact h S (w .relation)) =
+        subst (λ c. When c (Clash h S) (Exact h S (w .relation))) (sym (e .clash)) (subst (λ q. When b (Clash h S) (Exact h S q)) (sym (e .relation)) first) in
+        record {
+          along = record {
+            well = well;
+            pairs = pairs;
+            facts = subst (λ x. FactsOf h x) (sym (e .facts)) facts;
+            way = subst (λ l. Way h S l (w .relation)) (sym none) tt;
+          };
+          ahead = subst (λ l. Ahead h S (w .clashed) (w .relation) l) (sym none) there;
+          comes = subst (λ l. Comes h S (waitingOf S l) (nodeOf S l) 0) (sym none) (comes-first h S);
+        }

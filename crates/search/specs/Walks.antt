@@ -14,6 +14,7 @@ use Rattle.search.specs.Nodes.{Exact, FactsOf}
 use Rattle.search.specs.Adding.{OpenFrom}
 use Rattle.search.specs.Tree.{Waiting, Follows, Comes}
 use Rattle.search.specs.declared.relation.Relation.{Relation}
+use Rattle.search.specs.declared.saturate.Facts.{Facts}
 use Rattle.search.specs.declared.walk.Choice.{Choice}
 use Rattle.search.specs.declared.walk.Walk.{Walk}
 use Rattle.search.specs.declared.walk.Progress.{Progress}
@@ -110,6 +111,13 @@ pub record Clashed {N W T : ℕ} (h : History) (S : List (ℕ × ℕ)) (s : ℕ)
 pub record Successful {N W T : ℕ} (h : History) (S : List (ℕ × ℕ)) (s : ℕ) (w : Walk N W T) : Type 0 where
   pub search : Search h S s (succeeds (nodeOf S (choicesOf w)))
   pub exact : Exact h (nodeOf S (choicesOf w)) (w .relation)
+
+-- The walk has these facts and this relation, and no choice.
+pub record Begins {N W T : ℕ} (f : Facts N W) (o : Relation N W T) (clashed : Bool) (w : Walk N W T) : Type 0 where
+  pub facts : w .facts ≡ f
+  pub relation : w .relation ≡ o
+  pub clash : w .clashed ≡ clashed
+  pub none : w .depth ≡ 0
 
 -- There is a history, with pairs that stand, that this is a walk for.
 abbrev pub Walks : {N W T : ℕ} → Walk N W T → Type 0

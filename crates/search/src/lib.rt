@@ -5,6 +5,7 @@ pub mod record;
 pub mod relation;
 pub mod saturate;
 pub mod set;
+pub mod sizes;
 pub mod table;
 pub mod tree;
 pub mod walk;

@@ -5,12 +5,38 @@ ghost use Prim.Native.Nat.{ℕ, _+_};
 ghost use Rattle.std.specs.Orderings.{When};
 ghost use Rattle.order.specs.History.{History};
 ghost use Rattle.order.specs.Search.{Search, fails};
-ghost use Rattle.search.specs.Walks.{choicesOf, fromOf, Walking, Walks, Entered, Enters, Clashed, Clashes, Successful, After};
+ghost use Rattle.search.specs.Walks.{Begins, choicesOf, fromOf, Walking, Walks, Entered, Enters, Clashed, Clashes, Successful, After};
 use super::Choice;
 use super::Progress;
 use super::Walk;
+use crate::relation::Relation;
+use crate::saturate::Facts;
 
 impl<const N: usize, const W: usize, const T: usize> Walk<N, W, T> {
+    /// A walk that has chosen nothing yet, from a relation at its first node, unless that node has a clash.
+    pub(crate) fn new(
+        facts: Facts<N, W>,
+        relation: Relation<N, W, T>,
+        clashed: bool,
+    ) -> Walk<N, W, T>
+        ensures { λ r. ⌜ Begins (facts .entry) (relation .entry) clashed r ⌝ }
+    {
+        let mark = relation.mark();
+        let none = Choice {
+            first: 0,
+            second: 0,
+            mark,
+            last: false,
+        };
+        Walk {
+            facts,
+            relation,
+            choices: [none; T],
+            depth: 0,
+            clashed,
+        }
+    }
+
     /// Visits the next node, and says how the search stands then.
     pub(crate) fn visit(&mut self) -> Progress
         requires { ⌜ Walks (now self) ⌝ }
