@@ -1,18 +1,14 @@
 //! Reads a script of calls from standard input, a line each, and prints an answer a line each.
 
-mod asking;
-mod calling;
 mod hex;
 mod script;
 mod shelf;
 
-use referee::Case;
 use script::{Line, parse};
 use shelf::Shelf;
 
 fn main(rt: HostRuntime) -> anyhow::Result<()> {
     let mut shelf = Shelf::new(rt.alloc());
-    let mut case = Case::new();
     let mut number: u64 = 0;
     for line in rt.lines(rt.alloc()) {
         let line = line?;
@@ -20,7 +16,7 @@ fn main(rt: HostRuntime) -> anyhow::Result<()> {
         let words: Vec<&str> = line.as_str().split(' ').collect(rt.alloc())?;
         let fits = match parse(words.as_slice()) {
             Some(Line::Quit) => return Ok(()),
-            Some(line) => shelf.answer(&rt, &mut case, line)?,
+            Some(line) => shelf.answer(&rt, line)?,
             None => false,
         };
         if !fits {

@@ -23,40 +23,12 @@ pub enum Pile {
     Join(Base, Base),
 }
 
-/// A rule of order, by its name.
-#[derive(Clone, Copy)]
-pub enum Ruling {
-    Strict,
-    Star,
-    Lag,
-}
-
-/// What is asked of a pile: season, count and the event with a number, to be written to a buffer of a
-/// length, or to be what the case is opened with.
+/// What is asked of a pile: season, count and the event with a number, or to be written to a buffer of
+/// a length.
 #[derive(Clone, Copy)]
 pub enum Question {
     Event(u16),
     Write(usize),
-    Open(Ruling),
-}
-
-/// A preference, by its name.
-#[derive(Clone, Copy)]
-pub enum Preferred {
-    ByNumber,
-    ByStar,
-    BySession,
-}
-
-/// A call on the case; show has a buffer of a length.
-#[derive(Clone, Copy)]
-pub enum Call {
-    Stipulate(u16, u16),
-    Lift,
-    Judge(u32),
-    Show(Preferred, usize),
-    Forced(u16, u16),
-    Clash,
 }
 
 /// A line of a script.
@@ -67,7 +39,6 @@ pub enum Line<'a> {
     Packed(Name, &'a str),
     Read(&'a str),
     Ask(Pile, Question),
-    Make(Call),
     Quit,
 }
 
@@ -145,45 +116,6 @@ fn parse_questions(words: &[&str]) -> Option<Line<'static>> {
     Some(Line::Ask(parse_pile(pile)?, Question::Event(number.parse().ok()?)))
 }
 
-fn parse_ruling(word: &str) -> Option<Ruling> {
-    match word {
-        "strict" => Some(Ruling::Strict),
-        "star" => Some(Ruling::Star),
-        "lag" => Some(Ruling::Lag),
-        _ => None,
-    }
-}
-
-fn parse_open(words: &[&str]) -> Option<Line<'static>> {
-    let (rule, pile) = words.split_first()?;
-    Some(Line::Ask(parse_pile(pile)?, Question::Open(parse_ruling(rule)?)))
-}
-
-fn parse_preferred(word: &str) -> Option<Preferred> {
-    match word {
-        "by-number" => Some(Preferred::ByNumber),
-        "by_star_preference" => Some(Preferred::ByStar),
-        "by-session" => Some(Preferred::BySession),
-        _ => None,
-    }
-}
-
-fn parse_call(words: &[&str]) -> Option<Call> {
-    match words {
-        ["stipulate", first, second] => {
-            Some(Call::Stipulate(first.parse().ok()?, second.parse().ok()?))
-        }
-        ["lift"] => Some(Call::Lift),
-        ["judge", budget] => Some(Call::Judge(budget.parse().ok()?)),
-        ["show", preference, length] => {
-            Some(Call::Show(parse_preferred(preference)?, length.parse().ok()?))
-        }
-        ["forced", a, b] => Some(Call::Forced(a.parse().ok()?, b.parse().ok()?)),
-        ["clash"] => Some(Call::Clash),
-        _ => None,
-    }
-}
-
 /// The line that the words are, if any.
 pub(crate) fn parse<'a>(words: &[&'a str]) -> Option<Line<'a>> {
     match words {
@@ -193,8 +125,7 @@ pub(crate) fn parse<'a>(words: &[&'a str]) -> Option<Line<'a>> {
         ["write", rest @ ..] => parse_write(rest),
         ["read", hex] => Some(Line::Read(hex)),
         ["questions", rest @ ..] => parse_questions(rest),
-        ["open", rest @ ..] => parse_open(rest),
         ["quit"] => Some(Line::Quit),
-        _ => Some(Line::Make(parse_call(words)?)),
+        _ => None,
     }
 }

@@ -1,12 +1,9 @@
-//! The sources that a script holds, and lines about them.
+//! The sources that a script holds, and what the script asks of them.
 
-use crate::asking::{ask, read_bytes};
-use crate::calling::make;
-use crate::hex::parse_hex;
+use crate::hex::{parse_hex, print_hex};
 use crate::script::{Base, Line, Name, Pile, Question};
-use history::{Either, Event, Join, Offset, Pick, Table};
-use packed::Packed;
-use referee::Case;
+use history::{Either, Event, Join, Offset, Pick, Source, Table};
+use packed::{Packed, check, write};
 use std::alloc::{AllocError, Global};
 
 /// A source that a script holds: a table of records, or bytes.
@@ -75,24 +72,17 @@ impl Shelf {
     }
 
     /// Puts a question to a pile of layers, and prints the answer.
-    fn ask(
-        &self,
-        rt: &HostRuntime,
-        case: &mut Case,
-        pile: Pile,
-        question: Question,
-    ) -> anyhow::Result<()> {
+    fn ask(&self, rt: &HostRuntime, pile: Pile, question: Question) -> anyhow::Result<()> {
         match pile {
-            Pile::Only(base) => ask(rt, case, &self.base(base), question),
+            Pile::Only(base) => ask(rt, &self.base(base), question),
             Pile::Pick(star, base) => {
                 let below = self.base(base);
-                ask(rt, case, &Pick { below, star }, question)
+                ask(rt, &Pick { below, star }, question)
             }
             Pile::Offset(sessions, revisions, base) => {
                 let below = self.base(base);
                 ask(
                     rt,
-                    case,
                     &Offset {
                         below,
                         sessions,
@@ -104,7 +94,7 @@ impl Shelf {
             Pile::Join(one, other) => {
                 let first = self.base(one);
                 let second = self.base(other);
-                ask(rt, case, &Join { first, second }, question)
+                ask(rt, &Join { first, second }, question)
             }
         }
     }
@@ -131,12 +121,7 @@ impl Shelf {
     }
 
     /// Does what a line says, and prints the answer; false where the line does not fit.
-    pub(crate) fn answer(
-        &mut self,
-        rt: &HostRuntime,
-        case: &mut Case,
-        line: Line<'_>,
-    ) -> anyhow::Result<bool> {
+    pub(crate) fn answer(&mut self, rt: &HostRuntime, line: Line<'_>) -> anyhow::Result<bool> {
         match line {
             Line::Table(name, season) => self.put(
                 name,
@@ -159,11 +144,7 @@ impl Shelf {
                 self.put(name, Held::Bytes(bytes));
             }
             Line::Ask(pile, question) => {
-                self.ask(rt, case, pile, question)?;
-                return Ok(true);
-            }
-            Line::Make(call) => {
-                make(rt, case, call)?;
+                self.ask(rt, pile, question)?;
                 return Ok(true);
             }
             Line::Read(hex) => {
@@ -178,4 +159,72 @@ impl Shelf {
         println!(rt; "ok")?;
         Ok(true)
     }
+}
+
+/// Puts a question to a source, and prints the answer.
+fn ask<S: Source>(rt: &HostRuntime, source: &S, question: Question) -> anyhow::Result<()> {
+    match question {
+        Question::Event(number) => questions(rt, source, number),
+        Question::Write(length) => write_out(rt, source, length),
+    }
+}
+
+/// Prints season, count, and the event with a number.
+fn questions<S: Source>(rt: &HostRuntime, source: &S, number: u16) -> anyhow::Result<()> {
+    let season = source.season();
+    let count = source.count();
+    print!(rt; "ok {season} {count}")?;
+    match source.event(number) {
+        Some(event) => print_event(rt, event)?,
+        None => print!(rt; " absent")?,
+    }
+    println!(rt; "")?;
+    Ok(())
+}
+
+fn print_event(rt: &HostRuntime, event: Event) -> anyhow::Result<()> {
+    let Event {
+        kind,
+        session,
+        star,
+        revision,
+    } = event;
+    print!(rt; " {kind}.{session}.{star}.{revision}")?;
+    Ok(())
+}
+
+/// Writes a source to a buffer of a length, filled with AA, and prints the buffer after.
+fn write_out<S: Source>(rt: &HostRuntime, source: &S, length: usize) -> anyhow::Result<()> {
+    let mut buffer = vec![in rt.alloc(); 0xaa; length]?;
+    let answer = write(source, buffer.as_mut_slice());
+    let after = print_hex(rt.alloc(), buffer.as_slice())?;
+    match answer {
+        Ok(used) => println!(rt; "ok {used} : {after}")?,
+        Err(refusal) => {
+            let number = refusal.number();
+            println!(rt; "refused {number} : {after}")?
+        }
+    }
+    Ok(())
+}
+
+/// Prints what packed bytes mean, or why they are refused.
+fn read_bytes(rt: &HostRuntime, bytes: &[u8]) -> anyhow::Result<()> {
+    if let Err(fault) = check(bytes) {
+        let number = fault.number();
+        let place = fault.place();
+        println!(rt; "refused {number} place {place}")?;
+        return Ok(());
+    }
+    let source = Packed { bytes };
+    let season = source.season();
+    let count = source.count();
+    print!(rt; "ok {season} {count}")?;
+    for i in 0..count {
+        if let Some(event) = source.event(i + 1) {
+            print_event(rt, event)?;
+        }
+    }
+    println!(rt; "")?;
+    Ok(())
 }

@@ -1,7 +1,8 @@
 -- One text behind another.
-use Rattle.std.proofs.Common.{◌≡◌, ℕ, ◌+◌, ◌<◌, ◌≤◌, List, [], ◌∷◌, ◌++◌, length, get_or, take, drop, set, sym, refl, ap, ◌∙◌, add-one, arith, length-append, length-drop}
-use Rattle.std.proofs.lemmas.List.{append_assoc, take-append-drop, take_at, drop_at, drop-drop, length-take-le, drop_more, set_at, set_split}
-use Rattle.report.specs.Text.{pasted, Put}
+use Rattle.std.proofs.Common.{◌≡◌, ℕ, ◌+◌, ◌^◌, ◌<◌, ◌≤◌, List, [], ◌∷◌, ◌++◌, length, get_or, take, drop, set, decimal, sym, refl, ap, ◌∙◌, add-one, arith, length-append, length-drop}
+use Rattle.std.proofs.lemmas.List.{append_assoc, take_at, drop_at, drop-drop, length-take-le, drop_more, set_at, set_split}
+use Rattle.report.specs.Text.{pasted, Put, pair_line}
+use Rattle.std.proofs.lemmas.Fmt.{length-decimal-le}
 
 pub length_pasted : (old : List ℕ) (at : ℕ) (bs : List ℕ) → at + length bs ≤ length old → length (pasted old at bs) ≡ length old
 length_pasted old at bs h = simp (length-append, length-drop) (omega (arith, length-take-le at old (omega arith)))
@@ -42,32 +43,26 @@ set_pasted old at a next x e h =
 pub set_first : (old : List ℕ) (at x : ℕ) → at < length old → set old at x ≡ pasted old at (x ∷ [])
 set_first old at x h = set_split old at x h ∙ ap (λ n. take at old ++ (x ∷ drop n old)) (sym (add-one at))
 
--- room for two texts is room for the first
-pub first_room : (at : ℕ) {room : ℕ} (a b : List ℕ) → at + length (a ++ b) ≤ room → at + length a ≤ room
-first_room at a b h = omega (arith, length-append a b)
-
--- and behind it for the second
-pub rest_room : {x y : List ℕ} {at p : ℕ} (a b : List ℕ) → Put x y at p a → at + length (a ++ b) ≤ length x → p + length b ≤ length y
-rest_room {x} {y} {at} {p} a b s h =
-    let l = length-append a b in
-    let e : length y ≡ length x = ap length s.after ∙ length_pasted x at a (omega arith) in
-    omega (arith, s.place)
-
--- one text put behind another is the two put at once
-pub then : {x y z : List ℕ} {at p q : ℕ} {a b : List ℕ} → Put x y at p a → Put y z p q b → at + length (a ++ b) ≤ length x → Put x z at q (a ++ b)
+pub then : {x y z : List ℕ} {at p q : ℕ} {a b : List ℕ} → Put x y at p a → Put y z p q b → q ≤ length x → Put x z at q (a ++ b)
 then {x} {y} {z} {at} {p} {q} {a} {b} s t room =
-    let l = length-append a b in
     let sp = s.place in
     let tp = t.place in
     record {
-      place = omega arith;
+      place = simp length-append (omega arith);
       after = t.after ∙ ap (λ l. pasted l p b) s.after ∙ pasted_on x at a b p s.place (omega arith);
     }
-
--- nothing is put
-pub put_nothing : (x : List ℕ) (at : ℕ) → Put x x at at []
-put_nothing x at = record { place = omega arith; after = sym (take-append-drop at x) ∙ ap (λ n. take at x ++ drop n x) (omega arith) }
 
 -- the same text, written otherwise
 pub same_text : {x y : List ℕ} {at q : ℕ} {a : List ℕ} (b : List ℕ) → a ≡ b → Put x y at q a → Put x y at q b
 same_text {x} {y} {at} {q} {a} b e t = record { place = t.place ∙ ap (λ l. at + length l) e; after = t.after ∙ ap (pasted x at) e }
+
+pub length_pair_line : (f : List ℕ) (m : ℕ) (s : List ℕ) (n : ℕ) → length (pair_line f m s n) ≡ length f + length (decimal m) + length s + length (decimal n) + 1
+length_pair_line f m s n = simp length-append (omega arith)
+
+-- numbers of 64 bits have at most 20 digits
+pub pair_line_short : (f : List ℕ) (m : ℕ) (s : List ℕ) (n : ℕ) → m < 2 ^ 64 → n < 2 ^ 64 → length (pair_line f m s n) ≤ length f + length s + 41
+pair_line_short f m s n hm hn =
+    let l = length_pair_line f m s n in
+    let a = length-decimal-le 20 m (omega arith) (omega arith) hm in
+    let b = length-decimal-le 20 n (omega arith) (omega arith) hn in
+    omega arith

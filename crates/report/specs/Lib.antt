@@ -1,3 +1,2 @@
 pub mod Text
 pub mod Reports
-pub mod Findings

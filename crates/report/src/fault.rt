@@ -1,10 +1,9 @@
 ghost use Rattle.std.specs.Prelude.{◌≡◌, ◌≤◌, length};
-ghost use Rattle.report.specs.declared.fault.Fault.TheVariants.{File, History};
+ghost use Rattle.report.specs.declared.fault.Fault.TheVariants.{File};
 ghost use Rattle.report.specs.Reports.{fault_line};
 ghost use Rattle.report.specs.Text.{Put};
 
-use crate::lines::put_pair_line;
-use opening::HistoryFault;
+use crate::text::put_pair_line;
 use packed::FileFault;
 
 /// A fault of a layer below, carried whole: its layer, its number and its place.
@@ -12,8 +11,6 @@ use packed::FileFault;
 pub enum Fault {
     /// The bytes are refused.
     File(FileFault),
-    /// The history that the bytes mean is refused.
-    History(HistoryFault),
 }
 
 impl From<FileFault> for Fault {
@@ -21,14 +18,6 @@ impl From<FileFault> for Fault {
 
     fn from(f: FileFault) -> Fault {
         Fault::File(f)
-    }
-}
-
-impl From<HistoryFault> for Fault {
-    ghost from_gives = { λ f r. r ≡ History f };
-
-    fn from(f: HistoryFault) -> Fault {
-        Fault::History(f)
     }
 }
 
@@ -46,14 +35,6 @@ pub(crate) fn put_fault(buffer: &mut [u8], fault: Fault) -> usize
             f.number() as u64,
             b" place ",
             f.place() as u64,
-        ),
-        Fault::History(h) => put_pair_line(
-            buffer,
-            0,
-            b"fault history ",
-            h.number() as u64,
-            b" place ",
-            h.place() as u64,
         ),
     }
 }

@@ -1,14 +1,11 @@
 //! The printed report on a packed history.
 
 mod fault;
-mod findings;
-mod judged;
-mod lines;
 mod printing;
 mod text;
 
 pub use fault::Fault;
-pub use printing::{ReportRefusal, report, there_is_one_report};
+pub use printing::{ReportRefusal, report};
 
 #[cfg(test)]
 mod tests;

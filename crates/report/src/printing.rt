@@ -1,9 +1,9 @@
-ghost use Rattle.std.specs.Prelude.{◌≡◌, ◌≤◌, IfOk};
-ghost use Rattle.report.specs.Reports.{OneReport, Reports, refusal_number};
+ghost use Rattle.std.specs.Prelude.{◌≡◌, ◌≤◌, length, IfOk};
+ghost use Rattle.report.specs.Reports.{read, report_text, report_answer, report_after, refusal_number};
 
-use crate::fault::put_fault;
-use crate::findings::judge;
-use crate::judged::put_findings;
+use crate::fault::{Fault, put_fault};
+use crate::text::put_pair_line;
+use packed::{Header, check};
 
 /// Why no report is written.
 #[derive(Clone, Copy, PartialEq, Eq, Debug)]
@@ -23,25 +23,36 @@ impl ReportRefusal {
     }
 }
 
+/// The header of packed bytes, or the fault that they are refused with.
+fn read_header(bytes: &[u8]) -> Result<Header, Fault>
+    ensures { result ≡ read bytes.now }
+{
+    let header = check(bytes)?;
+    Ok(header)
+}
+
 /// Writes the report on packed bytes to the front of a buffer, and answers the bytes used.
 ///
-/// The report has a line with the season and the count of events, a line with the verdict and the steps, and, if the verdict
-/// is serial, a line with the order; or it has one line that tells of the fault. A buffer below 1,024 bytes is refused and
-/// stays as it was; otherwise what lies behind the report stays as it was.
+/// The report is a line with the season and the count of events, or a line that tells of the fault.
+/// A buffer below 1,024 bytes is refused and stays as it was; otherwise what lies behind the report
+/// stays as it was.
 pub fn report(bytes: &[u8], buffer: &mut [u8]) -> Result<usize, ReportRefusal>
-    ensures reports { Reports bytes.now buffer.old buffer.new result }
+    ensures answer { result ≡ report_answer (report_text bytes.now) (length buffer.old) }
+    ensures after { buffer.new ≡ report_after (report_text bytes.now) buffer.old }
     ensures room { IfOk result (λ used. used ≤ 1024) }
 {
     if buffer.len() < 1024 {
         return Err(ReportRefusal::ShortBuffer);
     }
-    match judge(bytes) {
-        Ok(found) => Ok(put_findings(buffer, &found)),
+    match read_header(bytes) {
+        Ok(h) => Ok(put_pair_line(
+            buffer,
+            0,
+            b"season ",
+            h.season as u64,
+            b" events ",
+            h.count as u64,
+        )),
         Err(fault) => Ok(put_fault(buffer, fault)),
     }
 }
-
-/// There is one report on given bytes.
-pub fn there_is_one_report()
-    ensures { OneReport }
-{}

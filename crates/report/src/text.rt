@@ -1,5 +1,5 @@
 ghost use Rattle.std.specs.Prelude.{◌+◌, ◌≤◌, length, decimal};
-ghost use Rattle.report.specs.Text.{Put};
+ghost use Rattle.report.specs.Text.{Put, pair_line};
 
 /// Puts bytes into a buffer at a place, and answers the place behind them.
 pub(crate) fn put_bytes(buffer: &mut [u8], at: usize, bytes: &[u8]) -> usize
@@ -23,4 +23,23 @@ pub(crate) fn put_number(buffer: &mut [u8], at: usize, n: u64) -> usize
     let last = put_number(buffer, at, n / 10);
     buffer[last] = b'0' + (n % 10) as u8;
     last + 1
+}
+
+/// Puts a line of two words, each with a number behind it.
+pub(crate) fn put_pair_line(
+    buffer: &mut [u8],
+    at: usize,
+    first: &[u8],
+    m: u64,
+    second: &[u8],
+    n: u64,
+) -> usize
+    requires { at + length (pair_line first.now m second.now n) ≤ length buffer.old }
+    ensures { Put buffer.old buffer.new at result (pair_line first.now m second.now n) }
+{
+    let a = put_bytes(buffer, at, first);
+    let b = put_number(buffer, a, m);
+    let c = put_bytes(buffer, b, second);
+    let d = put_number(buffer, c, n);
+    put_bytes(buffer, d, b"\n")
 }

@@ -1,43 +1,35 @@
 -- The way of a walk, and its moves.
 use Rattle.std.proofs.Common.{◌≡◌, ℕ, zero, suc, ◌+◌, ◌-◌, ◌*◌, ◌<◌, ◌≤◌, min, Bool, true, false, cond, not, ◌≢◌, ◌⊎◌, List, [], ◌∷◌, length, get_or, set, MatchBool, sym, refl, ap, ◌∙◌, subst, inl, inr, add-one, arith, get_or-set_other, get_or-set_same}
-use Rattle.std.proofs.lemmas.Bool.{true≢false, cases_Bool, ltb-true, lt-ltb, le-ltb}
+use Rattle.std.proofs.lemmas.Bool.{true≢false, cases_Bool}
 use Rattle.order.specs.History.{History, count, Number, WellFormed, PairsOfEvents}
 use Rattle.order.specs.Before.{Before, Clash}
 use Rattle.order.specs.Search.{Search, Outcome, fails, succeeds, Unordered, FirstUnordered, Complete}
 use Rattle.order.proofs.Ends.{grows, inside_more}
 use Rattle.order.proofs.Saturated.{before_numbers}
 use mathlib.Core.List.Memᴰ
-use Rattle.saturation.specs.Orders.{free, slack}
-use Rattle.saturation.specs.Relations.{earlier, Kept, mark_of, Marked, Undone}
-use Rattle.saturation.specs.Laws.{Closed}
-use Rattle.saturation.specs.Nodes.{Exact, FactsOf}
-use Rattle.saturation.specs.Adding.{Added, OpenFrom, FirstOpen, NoneOpen}
+use Rattle.search.specs.Orders.{free, slack}
+use Rattle.search.specs.Relations.{earlier, Kept, mark_of, Marked, Undone}
+use Rattle.search.specs.Laws.{Closed}
+use Rattle.search.specs.Nodes.{Exact, FactsOf}
+use Rattle.search.specs.Adding.{Added, OpenFrom, FirstOpen, NoneOpen}
 use Rattle.search.specs.Tree.{Waiting, Follows, Comes}
-use Rattle.search.specs.Walks.{latest, choices_of, node_of, one_way, waiting_of, from_of, Room, Back, Chosen, Way, Along, Next, Ahead, Walking, Entered, Clashed, Successful}
-use Rattle.saturation.specs.declared.relation.Relation.{Relation}
-use Rattle.saturation.specs.declared.saturate.Facts.{Facts}
+use Rattle.search.specs.Walks.{latest, choices_of, node_of, waiting_of, from_of, Room, Back, Chosen, Way, Along, Next, Ahead, Begins, Walking, Entered, Clashed, Successful}
+use Rattle.search.specs.declared.relation.Relation.{Relation}
+use Rattle.search.specs.declared.saturate.Facts.{Facts}
 use Rattle.search.specs.declared.walk.Choice.{Choice}
 use Rattle.search.specs.declared.walk.Walk.{Walk}
-use Rattle.saturation.specs.declared.relation.Mark.{Mark}
-use Rattle.sets.proofs.Backs.{rows_under}
-use Rattle.saturation.proofs.Slacks.{free_from, slack_falls}
-use Rattle.saturation.proofs.Joins.{sound}
-use Rattle.saturation.proofs.Trails.{kept_same, kept_then}
+use Rattle.search.specs.declared.relation.Mark.{Mark}
+use Rattle.search.proofs.Backs.{rows_under}
+use Rattle.search.proofs.Slacks.{free_from, slack_falls}
+use Rattle.search.proofs.Joins.{sound}
+use Rattle.search.proofs.Trails.{kept_same, kept_then}
 use Rattle.search.proofs.Trees.{comes_first_lem, comes_back, comes_failed, comes_succeeded, comes_down, comes_more, Proper}
 
 abbrev none : Choice
-none = record { first = 0; second = 0; mark = record { after = 0; before = 0 } }
+none = record { first = 0; second = 0; mark = record { after = 0; before = 0 }; last = false }
 
 abbrev turned : Choice → Choice
-turned c = record { first = c.second; second = c.first; mark = c.mark }
-
--- the second branch waits where the pair was tried one way only
-waiting_more : (S : List (ℕ × ℕ)) (c : Choice) (cs : List Choice) → c.first < c.second →
-    waiting_of S (c ∷ cs) ≡ record { pairs = node_of S cs; low = suc c.first; high = suc c.second } ∷ waiting_of S cs
-waiting_more S c cs l = let e = lt-ltb c.first c.second l in rw e
-
-waiting_same : (S : List (ℕ × ℕ)) (c : Choice) (cs : List Choice) → c.second ≤ c.first → waiting_of S (c ∷ cs) ≡ waiting_of S cs
-waiting_same S c cs l = let e = le-ltb c.first c.second l in rw e
+turned c = record { first = c.second; second = c.first; mark = c.mark; last = true }
 
 -- the latest choice, and those before it
 pub latest_top : (cs : List Choice) (k : ℕ) → 0 < k → latest cs k ≡ get_or cs (k - 1) none ∷ latest cs (k - 1)
@@ -164,10 +156,10 @@ module _ {N W T : ℕ} (h : History) where
 
     -- the first unordered pair is chosen
     pub descend_more : (s : ℕ) (w p : Walk N W T) (a b : ℕ) (cs : List Choice) → choices_of w ≡ cs →
-        choices_of p ≡ record { first = a; second = b; mark = mark_of w.relation } ∷ cs → p.relation ≡ w.relation → p.facts ≡ w.facts →
+        choices_of p ≡ record { first = a; second = b; mark = mark_of w.relation; last = false } ∷ cs → p.relation ≡ w.relation → p.facts ≡ w.facts →
         FirstOpen w.facts (from_of (choices_of w)) w.relation a b → Entered h S s w → Walking h S (s + 1) p
     descend_more s w p a b cs here there same facts f k =
-        let c : Choice = record { first = a; second = b; mark = mark_of w.relation } in
+        let c : Choice = record { first = a; second = b; mark = mark_of w.relation; last = false } in
         let node : Exact h (node_of S cs) w.relation = subst (λ l. Exact h (node_of S l) w.relation) here k.exact in
         let first : FirstUnordered h (node_of S cs) (suc a) (suc b) =
         subst (λ l. FirstUnordered h (node_of S l) (suc a) (suc b)) here (f.first h (node_of S (choices_of w)) k.along.facts k.exact k.lowest) in
@@ -193,8 +185,7 @@ module _ {N W T : ℕ} (h : History) where
           };
           ahead = subst (λ l. Ahead h S p.clashed p.relation l) (sym there) (subst (λ o. Next h (node_of S cs) (length cs) o c) (sym same) next);
           comes = subst (λ l. Comes h S (waiting_of S l) (node_of S l) (s + 1)) (sym there)
-              (subst (λ ws. Comes h S ws (node_of S (c ∷ cs)) (s + 1)) (sym (waiting_more S c cs f.lower))
-              (comes_down h S (waiting_of S cs) (node_of S cs) (suc a) (suc b) s (subst (λ l. Comes h S (waiting_of S l) (node_of S l) s) here k.comes) calm first));
+              (comes_down h S (waiting_of S cs) (node_of S cs) (suc a) (suc b) s (subst (λ l. Comes h S (waiting_of S l) (node_of S l) s) here k.comes) calm first);
         }
       where
         from_first : {d e : ℕ} → (suc a < d) ⊎ ((suc a ≡ d) × (suc b ≤ e)) → min a b < d
@@ -277,11 +268,11 @@ module _ {N W T : ℕ} (h : History) where
 
     -- where both ways were tried, back
     pub retreat_on : (s : ℕ) (w p : Walk N W T) (c : Choice) (cs : List Choice) → choices_of w ≡ c ∷ cs → choices_of p ≡ cs → p.relation ≡ w.relation → p.facts ≡ w.facts →
-        c.second ≤ c.first → Clashed h S s w → Clashed h S s p
+        c.last ≡ true → Clashed h S s w → Clashed h S s p
     retreat_on s w p c cs here there same facts e k =
         let way : Way h S (c ∷ cs) w.relation = subst (λ l. Way h S l w.relation) here k.along.way in
         let f : Follows h S (waiting_of S (c ∷ cs)) (s + 1) fails = subst (λ l. Follows h S (waiting_of S l) (s + 1) fails) here k.follows in
-        let shorter : waiting_of S (c ∷ cs) ≡ waiting_of S cs = waiting_same S c cs e in
+        let shorter : waiting_of S (c ∷ cs) ≡ waiting_of S cs = rw e in
         record {
           along = record {
             well = k.along.well;
@@ -293,25 +284,25 @@ module _ {N W T : ℕ} (h : History) where
         }
 
     -- the relation leads back to where the other way round waits
-    pub retreat_marked : (s : ℕ) (w : Walk N W T) (c : Choice) (cs : List Choice) → choices_of w ≡ c ∷ cs → c.first < c.second → Clashed h S s w → Marked w.relation c.mark
+    pub retreat_marked : (s : ℕ) (w : Walk N W T) (c : Choice) (cs : List Choice) → choices_of w ≡ c ∷ cs → c.last ≡ false → Clashed h S s w → Marked w.relation c.mark
     retreat_marked s w c cs here e k =
         let way : Way h S (c ∷ cs) w.relation = subst (λ l. Way h S l w.relation) here k.along.way in
-        let b = way.0.back (lt-ltb c.first c.second e) in
+        let b = way.0.back e in
         (b.relation, (b.kept, b.marked))
 
     -- there the pair is turned round
     pub retreat_turn : (s : ℕ) (w p : Walk N W T) (c : Choice) (cs : List Choice) → choices_of w ≡ c ∷ cs → choices_of p ≡ turned c ∷ cs → p.facts ≡ w.facts →
-        Undone w.relation p.relation c.mark → c.first < c.second → Clashed h S s w → Walking h S (s + 1) p
+        Undone w.relation p.relation c.mark → c.last ≡ false → Clashed h S s w → Walking h S (s + 1) p
     retreat_turn s w p c cs here there facts u e k =
         let o = w.relation in
         let q = p.relation in
         let way : Way h S (c ∷ cs) o = subst (λ l. Way h S l o) here k.along.way in
-        let b = way.0.back (lt-ltb c.first c.second e) in
+        let b = way.0.back e in
         let f : Follows h S (waiting_of S (c ∷ cs)) (s + 1) fails = subst (λ l. Follows h S (waiting_of S l) (s + 1) fails) here k.follows in
-        let longer : waiting_of S (c ∷ cs) ≡ record { pairs = node_of S cs; low = suc c.first; high = suc c.second } ∷ waiting_of S cs = waiting_more S c cs e in
+        let longer : waiting_of S (c ∷ cs) ≡ record { pairs = node_of S cs; low = suc c.first; high = suc c.second } ∷ waiting_of S cs = rw e in
         let exact = exact_undone (node_of S cs) b.relation o q c.mark b.kept b.marked u b.exact in
         let more : Way h S (turned c ∷ cs) q =
-        (record { first = way.0.second; second = way.0.first; back = λ i. absurd (omega (arith, ltb-true c.second c.first i)) }, way_undone b.relation o q c.mark cs b.kept b.marked u b.on) in
+        (record { first = way.0.second; second = way.0.first; back = λ i. absurd (true≢false i) }, way_undone b.relation o q c.mark cs b.kept b.marked u b.on) in
         let next : Next h (node_of S cs) (length cs) q (turned c) = record {
           exact = exact;
           room = room_undone (length cs) b.relation o q c.mark b.kept b.marked u b.room;
@@ -326,8 +317,7 @@ module _ {N W T : ℕ} (h : History) where
             way = subst (λ l. Way h S l q) (sym there) more;
           };
           ahead = subst (λ l. Ahead h S p.clashed q l) (sym there) next;
-          comes = subst (λ l. Comes h S (waiting_of S l) (node_of S l) (s + 1)) (sym there)
-              (subst (λ ws. Comes h S ws (node_of S (turned c ∷ cs)) (s + 1)) (sym (waiting_same S (turned c) cs (omega arith))) (subst (λ l. Follows h S l (s + 1) fails) longer f));
+          comes = subst (λ l. Comes h S (waiting_of S l) (node_of S l) (s + 1)) (sym there) (subst (λ l. Follows h S l (s + 1) fails) longer f);
         }
       where
         from_first : {d i : ℕ} → (suc c.first < d) ⊎ ((suc c.first ≡ d) × (suc c.second ≤ i)) → min c.second c.first < d
@@ -341,11 +331,11 @@ module _ {N W T : ℕ} (h : History) where
     -- the second branches that wait are nodes of the history
     pub way_proper : (o : Relation N W T) (cs : List Choice) → PairsOfEvents h S → Way h S cs o → Proper h S (waiting_of S cs)
     way_proper o [] p w = tt
-    way_proper o (c ∷ cs) p w = more (way_proper o cs p w.1) (one_way c)
+    way_proper o (c ∷ cs) p w = more (way_proper o cs p w.1) c.last
       where
-        more : Proper h S (waiting_of S cs) → (b : Bool) → Proper h S (cond b (record { pairs = node_of S cs; low = suc c.first; high = suc c.second } ∷ waiting_of S cs) (waiting_of S cs))
-        more rest false = rest
-        more rest true = (inside_more (way_pairs o cs p w.1) (number_of h c.second w.0.second) (number_of h c.first w.0.first), rest)
+        more : Proper h S (waiting_of S cs) → (b : Bool) → Proper h S (cond b (waiting_of S cs) (record { pairs = node_of S cs; low = suc c.first; high = suc c.second } ∷ waiting_of S cs))
+        more rest true = rest
+        more rest false = (inside_more (way_pairs o cs p w.1) (number_of h c.second w.0.second) (number_of h c.first w.0.first), rest)
 
     -- a walk that comes to a node has not visited all nodes
     pub walking_more : (s : ℕ) (w : Walk N W T) → Walking h S s w → (t : ℕ) (o : Outcome) → Search h S t o → s < t
@@ -355,11 +345,19 @@ module _ {N W T : ℕ} (h : History) where
         comes_more h S (waiting_of S cs) (node_of S cs) s a.well (way_pairs w.relation cs a.pairs a.way) (way_proper w.relation cs a.pairs a.way) k.comes
 
     -- a walk begins
-    pub begins_walking : (w : Walk N W T) → WellFormed h → PairsOfEvents h S → FactsOf h w.facts → MatchBool w.clashed (Clash h S) (Exact h S w.relation) → w.depth ≡ 0 → Walking h S 0 w
-    begins_walking w well pairs facts first e =
-        let none : choices_of w ≡ [] = ap (latest w.choices) e in
+    pub begins_walking : (f : Facts N W) (o : Relation N W T) (b : Bool) (w : Walk N W T) → WellFormed h → PairsOfEvents h S → FactsOf h f →
+        MatchBool b (Clash h S) (Exact h S o) → Begins f o b w → Walking h S 0 w
+    begins_walking f o b w well pairs facts first e =
+        let none : choices_of w ≡ [] = ap (latest w.choices) e.none in
+        let there : MatchBool w.clashed (Clash h S) (Exact h S w.relation) =
+        subst (λ c. MatchBool c (Clash h S) (Exact h S w.relation)) (sym e.clash) (subst (λ q. MatchBool b (Clash h S) (Exact h S q)) (sym e.relation) first) in
         record {
-          along = record { well = well; pairs = pairs; facts = facts; way = subst (λ l. Way h S l w.relation) (sym none) tt };
-          ahead = subst (λ l. Ahead h S w.clashed w.relation l) (sym none) first;
+          along = record {
+            well = well;
+            pairs = pairs;
+            facts = subst (λ x. FactsOf h x) (sym e.facts) facts;
+            way = subst (λ l. Way h S l w.relation) (sym none) tt;
+          };
+          ahead = subst (λ l. Ahead h S w.clashed w.relation l) (sym none) there;
           comes = subst (λ l. Comes h S (waiting_of S l) (node_of S l) 0) (sym none) (comes_first_lem h S);
         }

@@ -1,18 +1,20 @@
 //! A walk through the nodes of a search.
 ghost use Rattle.std.specs.Prelude.{◌≡◌, ℕ, ◌≤◌, length};
 
-use saturation::{Facts, Mark, Relation};
+use crate::relation::{Mark, Relation};
+use crate::saturate::Facts;
 
 mod moves;
 
-/// A pair of writes that was chosen, the first to come before the second. The lower one comes first, until that way
-/// was tried.
+/// A pair of writes that was chosen, the first to come before the second.
 #[derive(Clone, Copy)]
 pub struct Choice {
     first: u16,
     second: u16,
     /// The relation before the pair was added.
     mark: Mark,
+    /// Whether the other way round was tried before.
+    last: bool,
 }
 
 /// How a search stands.

@@ -1,46 +1,36 @@
 //! From one node to the next.
-ghost use Rattle.std.specs.Prelude.{◌≡◌, ℕ, ◌+◌, List, length, MatchBool};
-ghost use Rattle.order.specs.History.{History, PairsOfEvents};
+ghost use Rattle.std.specs.Prelude.{◌≡◌, ℕ, ◌+◌, List, MatchBool};
+ghost use Rattle.order.specs.History.{History};
 ghost use Rattle.order.specs.Search.{Search, fails};
-ghost use Rattle.sets.specs.Rows.{in_rows};
-ghost use Rattle.saturation.specs.Orders.{Roomy};
-ghost use Rattle.saturation.specs.Relations.{earlier};
-ghost use Rattle.saturation.specs.Recorded.{history_in};
-ghost use Rattle.search.specs.Walks.{choices_of, from_of, Walking, Walks, Entered, Enters, Clashed, Clashes, Successful, After};
+ghost use Rattle.search.specs.Walks.{Begins, choices_of, from_of, Walking, Walks, Entered, Enters, Clashed, Clashes, Successful, After};
 
 use super::{Choice, Progress, Walk};
-use saturation::{Facts, Mark, Recorded, Relation};
-use sets::EventSet;
+use crate::relation::Relation;
+use crate::saturate::Facts;
 
 impl<const N: usize, const W: usize, const T: usize> Walk<N, W, T> {
-    /// A walk of no events, for `restart` to begin in place.
-    pub(crate) fn idle() -> Walk<N, W, T>
-        requires { Roomy N W T }
+    /// A walk that has chosen nothing yet, from a relation at its first node, unless that node has a clash.
+    pub(crate) fn new(
+        facts: Facts<N, W>,
+        relation: Relation<N, W, T>,
+        clashed: bool,
+    ) -> Walk<N, W, T>
+        ensures { Begins facts.entry relation.entry clashed result }
     {
+        let mark = relation.mark();
         let none = Choice {
             first: 0,
             second: 0,
-            mark: Mark::first(),
+            mark,
+            last: false,
         };
         Walk {
-            facts: Facts::new(0),
-            relation: Relation::new(0),
+            facts,
+            relation,
             choices: [none; T],
             depth: 0,
-            clashed: false,
+            clashed,
         }
-    }
-
-    /// Comes to the first node for a record with pairs that stand, given by number, in place.
-    pub(crate) fn restart(&mut self, case: &Recorded<N, W>, pairs: &[(u16, u16)])
-        requires room { Roomy N W T }
-        requires inside { PairsOfEvents (history_in case.now) pairs.now }
-        ensures { Walking (history_in case.now) pairs.now 0 self.new }
-    {
-        self.facts = Facts::of(case);
-        self.relation.clear(case.count());
-        self.clashed = !self.relation.root(case, &self.facts, pairs);
-        self.depth = 0;
     }
 
     /// Visits the next node, and says how the search stands then.
@@ -61,14 +51,6 @@ impl<const N: usize, const W: usize, const T: usize> Walk<N, W, T> {
                 Progress::Failed
             }
         }
-    }
-
-    /// For each event the events before it in the relation.
-    pub(crate) fn before_rows(&self) -> [EventSet<W>; N]
-        ensures rows { (x y : ℕ) → in_rows result y x ≡ earlier self.now.relation x y }
-        ensures each { length result ≡ N }
-    {
-        self.relation.predecessor_rows()
     }
 
     /// Comes to the next node, and says whether it has no clash.
@@ -107,6 +89,7 @@ impl<const N: usize, const W: usize, const T: usize> Walk<N, W, T> {
                     first: a as u16,
                     second: b as u16,
                     mark,
+                    last: false,
                 };
                 self.depth += 1;
                 true
@@ -123,12 +106,13 @@ impl<const N: usize, const W: usize, const T: usize> Walk<N, W, T> {
         while self.depth > 0 {
             self.depth -= 1;
             let c = self.choices[self.depth];
-            if c.first < c.second {
+            if !c.last {
                 self.relation.undo_to(c.mark);
                 self.choices[self.depth] = Choice {
                     first: c.second,
                     second: c.first,
                     mark: c.mark,
+                    last: true,
                 };
                 self.depth += 1;
                 return true;

@@ -1,32 +1,18 @@
-use Rattle.std.proofs.Common.{◌++◌, length, drop, sym, ap, ◌∙◌, zero-add, arith}
-use Rattle.report.specs.Reports.{ReportOf, fault_line}
-use Rattle.report.specs.Findings.{found_text}
-use Rattle.report.proofs.Found.{few, found_report, found_fits}
+use Rattle.std.proofs.Common.{◌^◌, ◌<◌, ◌≤◌, length, codes, arith, rules}
+use Rattle.packed.specs.declared.header.Header.{Header}
+use Rattle.report.specs.Text.{pair_line}
+use Rattle.report.proofs.Pastes.{pair_line_short}
 use Rattle.report.proofs.printing.report.Goals as goal
 
-pub put-findings-requires : goal.put-findings-requires
-put-findings-requires c =
-    let f = c.in-Ok.found in
-    let t = c.in-Ok.ensures in
-    record { few = few c.args.bytes.now f.header t.judged.header; room = omega (arith, found_fits c.args.bytes.now f (omega arith) (omega arith) t) }
+-- the line of a header is short
+head_short : (h : Header) → h.season < 2 ^ 16 → h.count < 2 ^ 16 → length (pair_line (codes "season ") h.season (codes " events ") h.count) ≤ 1024
+head_short h s n = omega (arith, pair_line_short (codes "season ") h.season (codes " events ") h.count (omega arith) (omega arith))
+
+pub put-pair-line-requires : goal.put-pair-line-requires
+put-pair-line-requires c = omega (arith, head_short c.in-Ok.h (omega arith) (omega arith))
 
 pub returns-in-Ok : goal.returns-in-Ok
 returns-in-Ok c =
-    let f = c.in-Ok.found in
-    let t = c.in-Ok.ensures in
-    let put = c.put-findings.ensures in
-    let used = put.place ∙ zero-add (length (found_text f)) in
-    record {
-      reports = (omega arith, found_text f, found_report c.args.bytes.now f t, used, put.after ∙ ap (λ n. found_text f ++ drop n c.args.buffer.now) (sym put.place));
-      room = omega (arith, found_fits c.args.bytes.now f (omega arith) (omega arith) t);
-    }
-
-pub returns-in-Err : goal.returns-in-Err
-returns-in-Err c =
-    let f = c.in-Err.fault in
-    let put = c.put-fault.ensures.put in
-    let used = put.place ∙ zero-add (length (fault_line f)) in
-    record {
-      reports = (omega arith, fault_line f, ReportOf.faulty f c.in-Err.ensures, used, put.after ∙ ap (λ n. fault_line f ++ drop n c.args.buffer.now) (sym put.place));
-      room = c.put-fault.ensures.room;
-    }
+    let short = head_short c.in-Ok.h (omega arith) (omega arith) in
+    let at = c.put-pair-line.ensures.place in
+    record { answer = search rules; after = search rules; room = omega arith }

@@ -1,7 +1,7 @@
 use Rattle.std.proofs.Common.{◌≡◌, ℕ, ◌+◌, ◌<◌, ◌≤◌, List, refl, subst, inl, inr, arith, rules}
 use mathlib.Core.Logic.{∥∥₁_map}
 use Rattle.order.specs.History.{History}
-use Rattle.search.specs.Walks.{After, Walking}
+use Rattle.search.specs.Walks.{After, Walking, Walks}
 use Rattle.search.specs.Searches.{SearchOf, Ran}
 use Rattle.search.specs.declared.walk.Progress.{Progress}
 use Rattle.search.specs.declared.walk.Progress.TheVariants.{Running}
@@ -14,6 +14,9 @@ running : {N W T : ℕ} (x : Search N W T) (h : History) (S : List (ℕ × ℕ))
 unfolding After
 running x h S e k = subst (λ p. After h S x.steps x.walk p) e k
 
+walks : {N W T : ℕ} (x : Search N W T) → x.progress ≡ Running → Walks x.walk
+walks x e = ∥∥₁_map x.sound (λ y. (y.0, y.1, x.steps, running x y.0 y.1 e y.2))
+
 pub loop-self-init : goal.loop-self-init
 loop-self-init g c = ((λ h S k. k), inr refl)
 
@@ -22,14 +25,13 @@ returns-in-default g c h S k = record {
   answer = refl;
   same = c.loop-self.invariant.0 h S k;
   within = c.loop-self.invariant.1;
-  reached = λ e. absurd (c.in-default.not-Running e);
   stopped = λ e. absurd (c.in-default.not-Running e);
 }
 
 pub visit-self-requires : goal.visit-self-requires
 visit-self-requires g c =
     let o = c.loop-self.self.walk.relation in
-    (walk_small g.row.N g.row.W g.row.T o.after.wide o.after.narrow o.short, c.loop-self.self.sound c.in-Running.is)
+    (walk_small g.row.N g.row.W g.row.T o.after.wide o.after.narrow o.short, walks c.loop-self.self c.in-Running.is)
 
 pub overflow-add-self : goal.overflow-add-self
 overflow-add-self g c =
@@ -38,11 +40,9 @@ overflow-add-self g c =
     search rules
 
 pub invariant-of-self : goal.invariant-of-self
-unfolding After
 invariant-of-self g c =
     let x = c.loop-self.self in
-    let v = c.visit-self in
-    (λ e. ∥∥₁_map (x.sound c.in-Running.is) (λ y. (y.0, y.1, y.2 + 1, subst (λ p. After y.0 y.1 (y.2 + 1) v.new.self p) e (v.ensures y.0 y.1 y.2 y.3))), tt)
+    (∥∥₁_map x.sound (λ y. (y.0, y.1, c.visit-self.ensures y.0 y.1 x.steps (running x y.0 y.1 c.in-Running.is y.2))), tt)
 
 pub loop-self-smaller : goal.loop-self-smaller
 loop-self-smaller g c = omega arith
@@ -61,7 +61,6 @@ returns g c h S k =
       answer = refl;
       same = c.loop-self.invariant.0 h S k;
       within = c.loop-self.invariant.1;
-      reached = λ e. omega arith;
       stopped = λ e t o d.
           let lt = walking_more h S x.steps x.walk (running x h S e (c.loop-self.invariant.0 h S k)) t o d in
           omega arith;

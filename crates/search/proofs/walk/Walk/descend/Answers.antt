@@ -1,9 +1,9 @@
-use Rattle.std.proofs.Common.{◌≡◌, ℕ, ◌<◌, ◌∷◌, length, sym, refl, ap, ◌∙◌, subst, arith, length-set, rules}
+use Rattle.std.proofs.Common.{◌≡◌, ℕ, ◌<◌, false, ◌∷◌, length, sym, refl, ap, ◌∙◌, subst, arith, length-set, rules}
 use mathlib.Core.Logic.{∥∥₁_elim}
 use denote.Struct.Props.{props}
-use Rattle.saturation.specs.Adding.{FirstOpen, NoneOpen}
+use Rattle.search.specs.Adding.{FirstOpen, NoneOpen}
 use Rattle.search.specs.Walks.{latest, choices_of, from_of}
-use Rattle.saturation.specs.declared.relation.Mark.{Mark}
+use Rattle.search.specs.declared.relation.Mark.{Mark}
 use Rattle.search.specs.declared.walk.Choice.{Choice}
 use Rattle.search.proofs.Ways.{latest_put, descend_more, descend_none, descend_room}
 use Rattle.search.proofs.walk.Walk.descend.Goals as goal
@@ -32,8 +32,8 @@ returns-in-Some g c h S s k =
     let b = c.in-Some.b in
     let first : FirstOpen w.facts (from_of (choices_of w)) w.relation a b = subst (λ n. FirstOpen w.facts n w.relation a b) c.lowest.ensures c.in-Some.ensures in
     let lt : w.depth < length w.choices = omega (arith, descend_room h S s w (from_of (choices_of w)) a b first k, w.sized) in
-    let put = latest_put w.choices w.depth (record { first = a; second = b; mark = c.mark-mark.result }) lt in
-    let with : Mark → Choice = λ m. record { first = a; second = b; mark = m } in
+    let put = latest_put w.choices w.depth (record { first = a; second = b; mark = c.mark-mark.result; last = false }) lt in
+    let with : Mark → Choice = λ m. record { first = a; second = b; mark = m; last = false } in
     descend_more h S s w _ a b (choices_of w) refl (put ∙ ap (λ m. with m ∷ choices_of w) c.mark-mark.ensures) refl refl first k
 
 pub returns-in-None : goal.returns-in-None

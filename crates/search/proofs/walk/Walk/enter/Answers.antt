@@ -2,8 +2,8 @@ use Rattle.std.proofs.Common.{◌≡◌, ℕ, ◌-◌, ◌<◌, true, List, ◌�
 use mathlib.Core.Logic.{∥∥₁_elim}
 use denote.Struct.Props.{props}
 use Rattle.order.specs.History.{History}
-use Rattle.saturation.specs.Relations.{earlier}
-use Rattle.saturation.specs.Adding.{Addable}
+use Rattle.search.specs.Relations.{earlier}
+use Rattle.search.specs.Adding.{Addable}
 use Rattle.search.specs.Walks.{latest, choices_of, node_of, Walking, Walks, Way, Ahead, Next}
 use Rattle.search.specs.declared.walk.Choice.{Choice}
 use Rattle.search.specs.declared.walk.Walk.{Walk}

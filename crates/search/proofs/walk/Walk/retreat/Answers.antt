@@ -1,6 +1,7 @@
-use Rattle.std.proofs.Common.{◌≡◌, ℕ, ◌+◌, ◌-◌, ◌<◌, ◌∷◌, length, get_or, set, sym, refl, ap, ◌∙◌, subst, arith, rules}
+use Rattle.std.proofs.Common.{◌≡◌, ℕ, ◌+◌, ◌-◌, ◌<◌, true, false, ◌∷◌, length, get_or, set, sym, refl, ap, ◌∙◌, subst, arith, rules}
 use mathlib.Core.Logic.{∥∥₁_map}
-use Rattle.saturation.specs.Relations.{Marked}
+use Rattle.std.proofs.lemmas.Bool.{not-true, not-false}
+use Rattle.search.specs.Relations.{Marked}
 use Rattle.search.specs.Walks.{latest, choices_of}
 use Rattle.search.specs.declared.walk.Choice.{Choice}
 use Rattle.search.proofs.Ways.{latest_top, latest_put, retreat_on, retreat_marked, retreat_turn, retreat_none}
@@ -13,21 +14,21 @@ pub undo-to-requires : goal.undo-to-requires
 undo-to-requires g c =
     let w = c.loop-self.self in
     let top = latest_top w.choices w.depth (omega arith) in
-    let marked = ∥∥₁_map c.requires (λ x. retreat_marked x.0 x.1 x.2 w _ _ top c.if-c.true (c.loop-self.invariant x.0 x.1 x.2 x.3)) in
+    let marked = ∥∥₁_map c.requires (λ x. retreat_marked x.0 x.1 x.2 w _ _ top (not-true _ c.if-not-c.true) (c.loop-self.invariant x.0 x.1 x.2 x.3)) in
     search rules
 
-pub returns-then-c : goal.returns-then-c
-returns-then-c g c h S s k =
+pub returns-then-not-c : goal.returns-then-not-c
+returns-then-not-c g c h S s k =
     let w = c.loop-self.self in
     let top = latest_top w.choices w.depth (omega arith) in
     let lt : w.depth - 1 < length w.choices = omega (arith, w.sized, w.deep) in
-    retreat_turn h S s w _ _ _ top (latest_put w.choices (w.depth - 1) _ lt) refl c.undo-to.ensures c.if-c.true (c.loop-self.invariant h S s k)
+    retreat_turn h S s w _ _ _ top (latest_put w.choices (w.depth - 1) _ lt) refl c.undo-to.ensures (not-true _ c.if-not-c.true) (c.loop-self.invariant h S s k)
 
 pub loop-self-preserved : goal.loop-self-preserved
 loop-self-preserved g c h S s k =
     let w = c.loop-self.self in
     let top = latest_top w.choices w.depth (omega arith) in
-    retreat_on h S s w _ _ _ top refl refl refl c.if-c.false (c.loop-self.invariant h S s k)
+    retreat_on h S s w _ _ _ top refl refl refl (not-false _ c.if-not-c.false) (c.loop-self.invariant h S s k)
 
 pub returns : goal.returns
 returns g c h S s k = retreat_none h S s c.loop-self.self (omega arith) (c.loop-self.invariant h S s k)

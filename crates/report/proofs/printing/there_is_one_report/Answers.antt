@@ -1,5 +1,0 @@
-use Rattle.report.proofs.Only.{one_report}
-use Rattle.report.proofs.printing.there_is_one_report.Goals as goal
-
-pub returns : goal.returns
-returns c = one_report

@@ -1,0 +1,15 @@
+use Rattle.std.proofs.Common.{◌≡◌, ℕ, true, ◌⊎◌, get_or}
+use Rattle.search.specs.Sets.{has, size}
+use Rattle.search.specs.Rows.{in_rows}
+use Rattle.search.specs.Laws.{Closed}
+use Rattle.search.specs.Closures.{earlier, Raised}
+use Rattle.search.proofs.closure.Closure.before_sources.Given as goal
+
+abbrev pub invariant-loop-r : goal.invariant-loop-r
+invariant-loop-r g l =
+    Raised (Closed l.facts) l.initial.self l.self
+    × ((x : ℕ) → has l.reads x ≡ true → (in_rows l.facts.others l.w x ≡ true) × (earlier l.initial.self l.w x ≡ true))
+    × ((x : ℕ) → in_rows l.facts.others l.w x ≡ true → earlier l.initial.self l.w x ≡ true → (has l.reads x ≡ true) ⊎ (earlier l.self l.w (get_or l.facts.from x 0) ≡ true))
+
+abbrev pub decreases-loop-r : goal.decreases-loop-r
+decreases-loop-r g l = size l.reads

@@ -1,0 +1,14 @@
+use Rattle.std.proofs.Common.{◌≡◌, ℕ, true, ◌⊎◌}
+use Rattle.search.specs.Sets.{has, size}
+use Rattle.search.specs.Laws.{Closed}
+use Rattle.search.specs.Closures.{earlier, Raised}
+use Rattle.search.proofs.closure.Closure.lead.Given as goal
+
+abbrev pub invariant-loop-q : goal.invariant-loop-q
+invariant-loop-q g l =
+    Raised (Closed l.facts) l.initial.self l.self
+    × ((q : ℕ) → has l.missing q ≡ true → has l.later q ≡ true)
+    × ((q : ℕ) → has l.later q ≡ true → (has l.missing q ≡ true) ⊎ (earlier l.self l.r q ≡ true))
+
+abbrev pub decreases-loop-q : goal.decreases-loop-q
+decreases-loop-q g l = size l.missing

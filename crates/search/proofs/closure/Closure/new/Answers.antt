@@ -1,0 +1,40 @@
+use Rattle.std.proofs.Common.{sym, refl, ◌∙◌}
+use lib.ListN.{length-replicate}
+use Rattle.std.proofs.lemmas.Bool.{true≢false}
+use Rattle.search.proofs.Backs.{in_fill}
+use Rattle.search.proofs.closure.Closure.new.Goals as goal
+
+pub invariant-of-result : goal.invariant-of-result
+invariant-of-result g c =
+    let none = c.new-empty.ensures in
+    let empty = in_fill g.row.N c.new-empty.result c.new-empty.ensures in (
+      c.requires.1,
+      (
+        c.requires.2,
+        (
+          c.requires.0,
+          (
+            length-replicate g.row.N c.new-empty.result,
+            (
+              length-replicate g.row.N c.new-empty.result,
+              (
+                λ x h. absurd (true≢false (sym h ∙ none x)),
+                (
+                  λ x y h. absurd (true≢false (sym h ∙ empty x y)),
+                  (
+                    λ x y h. absurd (true≢false (sym h ∙ empty x y)),
+                    (
+                      λ x y. empty y x ∙ sym (empty x y),
+                      (∣ (λ x y z h _. absurd (true≢false (sym h ∙ empty x y))) ∣₁, tt),
+                    ),
+                  ),
+                ),
+              ),
+            ),
+          ),
+        ),
+      ),
+    )
+
+pub returns : goal.returns
+returns g c = record { count = refl; none = in_fill g.row.N c.new-empty.result c.new-empty.ensures; idle = c.new-empty.ensures }

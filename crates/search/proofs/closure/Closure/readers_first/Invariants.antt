@@ -1,0 +1,15 @@
+use Rattle.std.proofs.Common.{◌≡◌, ℕ, true, ◌⊎◌}
+use Rattle.search.specs.Sets.{has, size}
+use Rattle.search.specs.Rows.{in_rows}
+use Rattle.search.specs.Laws.{Closed}
+use Rattle.search.specs.Closures.{earlier, Raised}
+use Rattle.search.proofs.closure.Closure.readers_first.Given as goal
+
+abbrev pub invariant-loop-r : goal.invariant-loop-r
+invariant-loop-r g l =
+    Raised (Closed l.facts) l.initial.self l.self
+    × ((x : ℕ) → has l.takers x ≡ true → in_rows l.facts.takers l.w x ≡ true)
+    × ((q x : ℕ) → has l.later q ≡ true → in_rows l.facts.takers l.w x ≡ true → (has l.takers x ≡ true) ⊎ (earlier l.self x q ≡ true))
+
+abbrev pub decreases-loop-r : goal.decreases-loop-r
+decreases-loop-r g l = size l.takers

@@ -1,0 +1,16 @@
+use Rattle.search.specs.Laws.{Closed}
+use Rattle.search.proofs.Raises.{raised_then, both_rules}
+use Rattle.search.proofs.closure.Closure.settle.Goals as goal
+
+pub returns : goal.returns
+returns g c =
+    let f = c.args.facts.now in
+    let o = c.args.self.now in
+    let p = c.before-sources.new.self in
+    let q = c.readers-first.new.self in
+    let a = c.before-sources.ensures in
+    let b = c.readers-first.ensures in
+    record {
+      raised = raised_then (Closed f) o p q a.raised b.raised;
+      rule = both_rules f o p q c.args.w a.raised b.raised a.rule b.rule;
+    }

@@ -1,0 +1,10 @@
+use Rattle.std.proofs.Common.{◌≡◌, ℕ, suc, ◌&&◌, ◌||◌, ltb}
+use Rattle.order.specs.History.{at}
+use Rattle.search.specs.Sets.{has}
+use Rattle.search.specs.Rows.{in_rows}
+use Rattle.search.specs.Recorded.{history_in}
+use Rattle.search.specs.Rooting.{leads}
+use Rattle.search.proofs.record.Recorded.followers.Given as goal
+
+abbrev pub invariant-loop-y : goal.invariant-loop-y
+invariant-loop-y g l = (y : ℕ) → has l.followers y ≡ (in_rows l.self.kept l.x y || (ltb y l.y && leads (at (history_in l.self) (suc l.x)) (at (history_in l.self) (suc y))))

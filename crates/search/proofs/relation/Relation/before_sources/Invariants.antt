@@ -1,0 +1,16 @@
+use Rattle.std.proofs.Common.{◌≡◌, ℕ, true, ◌⊎◌, get_or}
+use Rattle.search.specs.Sets.{has, size}
+use Rattle.search.specs.Rows.{in_rows}
+use Rattle.search.specs.Relations.{earlier, Kept}
+use Rattle.search.specs.Laws.{Forced}
+use Rattle.search.proofs.relation.Relation.before_sources.Given as goal
+
+abbrev pub invariant-loop-r : goal.invariant-loop-r
+invariant-loop-r g l =
+    Kept l.initial.self l.self
+    × Forced l.facts l.initial.self l.self
+    × ((x : ℕ) → has l.reads x ≡ true → (in_rows l.facts.others l.w x ≡ true) × (earlier l.initial.self l.w x ≡ true))
+    × ((x : ℕ) → in_rows l.facts.others l.w x ≡ true → earlier l.initial.self l.w x ≡ true → (has l.reads x ≡ true) ⊎ (earlier l.self l.w (get_or l.facts.from x 0) ≡ true))
+
+abbrev pub decreases-loop-r : goal.decreases-loop-r
+decreases-loop-r g l = size l.reads

@@ -1,0 +1,56 @@
+use Rattle.std.proofs.Common.{◌≡◌, ℕ, ◌+◌, ◌<◌, ◌≤◌, Bool, true, sym, refl, ap, ◌∙◌, subst, inl, inr, arith, rules}
+use Rattle.std.proofs.lemmas.Bool.{or_cases}
+use Rattle.search.specs.Sets.{has, size}
+use Rattle.search.specs.Rows.{in_row}
+use Rattle.search.specs.Orders.{Closure}
+use Rattle.search.specs.Relations.{earlier}
+use Rattle.search.proofs.Links.{added, closure}
+use Rattle.search.proofs.Joins.{sound, head_below, tail_below, after_room, before_room, after_is, waiting_is, sound_joined}
+use Rattle.search.proofs.relation.Relation.join.Goals as goal
+
+pub widen-requires : goal.widen-requires
+widen-requires g c =
+    let o = c.args.self.now in
+    let room = after_room o c.args.u c.args.v c.requires.inside.0 c.requires.inside.1 c.requires.open c.span-span.result c.span-span.ensures in
+    let inside : (x : ℕ) → has c.span-span.result.heads x ≡ true → x < g.row.N
+    = λ x h. let l = head_below o c.args.u c.args.v c.requires.inside.0 c.requires.inside.1 c.requires.open c.span-span.result c.span-span.ensures x h in omega arith in
+    search rules
+
+pub widen-requires-2 : goal.widen-requires-2
+widen-requires-2 g c =
+    let o = c.args.self.now in
+    let room = before_room o c.args.u c.args.v c.requires.inside.0 c.requires.inside.1 c.requires.open c.span-span.result c.span-span.ensures in
+    let inside : (y : ℕ) → has c.span-span.result.tails y ≡ true → y < g.row.N
+    = λ y h. let l = tail_below o c.args.u c.args.v c.requires.inside.0 c.requires.inside.1 c.requires.open c.span-span.result c.span-span.ensures y h in omega arith in
+    search rules
+
+pub invariant-of-self : goal.invariant-of-self
+invariant-of-self g c =
+    let o = c.args.self.now in (
+      search rules,
+      (
+        search rules,
+        (
+          λ x h. elim (or_cases (has o.dirty x) (has c.span-span.result.heads x) (sym (c.union-with.ensures x) ∙ h)) [
+            | inl d ↦ o.listed x d
+            | inr e ↦ head_below o c.args.u c.args.v c.requires.inside.0 c.requires.inside.1 c.requires.open c.span-span.result c.span-span.ensures x e
+          ],
+          (
+            ∣ sound_joined o c.args.u c.args.v c.requires.inside.0 c.requires.inside.1 c.requires.open c.span-span.result c.span-span.ensures
+                c.widen.new.self c.widen-2.new.self c.widen.ensures.rows c.widen-2.ensures.rows c.widen.ensures.len c.widen-2.ensures.len ∣₁,
+            tt,
+          ),
+        ),
+      ),
+    )
+
+pub returns : goal.returns
+returns g c =
+    let o = c.args.self.now in
+    let e = after_is o c.args.u c.args.v c.requires.inside.0 c.requires.inside.1 c.requires.open c.span-span.result c.span-span.ensures (in_row c.widen.new.self) c.widen.ensures.rows in
+    record {
+      closure = subst (λ (S : ℕ → ℕ → Bool). Closure (earlier o) c.args.u c.args.v S) (sym e) (closure (earlier o) (sound o).chains c.args.u c.args.v);
+      waiting = λ x. waiting_is o c.args.u c.args.v c.requires.inside.0 c.requires.inside.1 c.requires.open c.span-span.result c.span-span.ensures (in_row c.widen.new.self) e x
+          (has c.union-with.new.self x) (has o.dirty x) (c.union-with.ensures x);
+      kept = record { events = refl; afters = c.widen.ensures.back; befores = c.widen-2.ensures.back };
+    }

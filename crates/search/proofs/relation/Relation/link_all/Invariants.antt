@@ -1,0 +1,14 @@
+use Rattle.std.proofs.Common.{◌≡◌, ℕ, true, false}
+use Rattle.search.specs.Sets.{has, size}
+use Rattle.search.specs.Relations.{Kept}
+use Rattle.search.specs.Rooting.{Gained}
+use Rattle.search.proofs.relation.Relation.link_all.Given as goal
+
+abbrev pub invariant-loop-y : goal.invariant-loop-y
+invariant-loop-y g l =
+    Kept l.initial.self l.self
+    × Gained (λ u v. (u ≡ l.x) × (has l.listed v ≡ true) × (has l.rest v ≡ false)) l.initial.self l.self
+    × ((y : ℕ) → has l.rest y ≡ true → has l.listed y ≡ true)
+
+abbrev pub decreases-loop-y : goal.decreases-loop-y
+decreases-loop-y g l = size l.rest

@@ -1,0 +1,16 @@
+use Rattle.std.proofs.Common.{◌≡◌, ℕ, true, ◌⊎◌}
+use Rattle.search.specs.Sets.{has, size}
+use Rattle.search.specs.Rows.{in_rows}
+use Rattle.search.specs.Relations.{earlier, Kept}
+use Rattle.search.specs.Laws.{Forced}
+use Rattle.search.proofs.relation.Relation.readers_first.Given as goal
+
+abbrev pub invariant-loop-r : goal.invariant-loop-r
+invariant-loop-r g l =
+    Kept l.initial.self l.self
+    × Forced l.facts l.initial.self l.self
+    × ((x : ℕ) → has l.takers x ≡ true → in_rows l.facts.takers l.w x ≡ true)
+    × ((q x : ℕ) → has l.later q ≡ true → in_rows l.facts.takers l.w x ≡ true → (has l.takers x ≡ true) ⊎ (earlier l.self x q ≡ true))
+
+abbrev pub decreases-loop-r : goal.decreases-loop-r
+decreases-loop-r g l = size l.takers

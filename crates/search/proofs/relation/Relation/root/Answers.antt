@@ -1,0 +1,71 @@
+use Rattle.std.proofs.Common.{◌≡◌, Bool, MatchBool, sym, ◌∙◌, subst, arith, rules}
+use Rattle.std.proofs.lemmas.Bool.{true≢false}
+use Rattle.std.proofs.lemmas.Bool.Decides.{when_true}
+use Rattle.order.specs.Before.{Clash}
+use Rattle.search.specs.Laws.{Ready}
+use Rattle.search.specs.Nodes.{Exact}
+use Rattle.search.specs.Recorded.{history_in}
+use Rattle.search.specs.Rooting.{PairsUpTo}
+use Rattle.search.proofs.Trails.{kept_then}
+use Rattle.search.proofs.Steps.{when_map}
+use Rattle.search.proofs.Records.{record_count}
+use Rattle.search.proofs.Roots.{events_clash, pairs_clash, rules_clash, root_ready, root_exact}
+use Rattle.search.proofs.relation.Relation.root.Goals as goal
+
+pub link-pairs-requires : goal.link-pairs-requires
+link-pairs-requires g c =
+    let e = c.link-events.ensures.kept.events in
+    let n = record_count c.args.case.now in
+    let k = c.requires.events.0 in
+    let all : PairsUpTo c.link-events.new.self.count c.args.pairs.now
+    = λ a b m. let p = c.requires.inside a b m in let u = p.0.high in let v = p.1.high in (p.0.low, omega arith, p.1.low, omega arith) in
+    search rules
+
+pub saturate-requires : goal.saturate-requires
+saturate-requires g c =
+    let a = c.if-not-link-events.ensures.pairs in
+    let b = c.if-link-pairs.ensures.pairs in
+    let q = c.link-pairs.new.self in
+    let ready : Ready c.args.facts.now q
+    = root_ready c.args.case.now c.args.pairs.now c.requires.inside c.args.self.now c.requires.bare c.link-events.new.self a q b c.args.facts.now in
+    let e : c.args.facts.now.count ≡ q.count = c.requires.events.1 ∙ sym (c.link-pairs.ensures.kept.events ∙ c.link-events.ensures.kept.events) in
+    search rules
+
+pub returns-then-link-pairs : goal.returns-then-link-pairs
+returns-then-link-pairs g c =
+    let o = c.args.self.now in
+    let p = c.link-events.new.self in
+    let q = c.link-pairs.new.self in
+    let z = c.saturate.new.self in
+    let a = c.if-not-link-events.ensures.pairs in
+    let b = c.if-link-pairs.ensures.pairs in
+    let kept = kept_then o q z (kept_then o p q c.link-events.ensures.kept c.link-pairs.ensures.kept) c.saturate.ensures.kept in
+    record {
+      kept = kept;
+      closed = λ t. (when_true _ _ t c.saturate.ensures.closed).closed;
+      node = λ facts.
+          when_map c.saturate.result
+          (λ s. root_exact c.args.case.now c.args.pairs.now c.requires.inside o c.requires.bare p a q b facts z s (kept.events ∙ sym c.requires.events.0))
+          (rules_clash c.args.case.now c.args.pairs.now c.requires.inside o c.requires.bare p a q b facts)
+          c.saturate.ensures.closed;
+    }
+
+pub returns-else-link-pairs : goal.returns-else-link-pairs
+returns-else-link-pairs g c =
+    let o = c.args.self.now in
+    let p = c.link-events.new.self in
+    let q = c.link-pairs.new.self in
+    record {
+      kept = kept_then o p q c.link-events.ensures.kept c.link-pairs.ensures.kept;
+      closed = λ t. absurd (true≢false (sym t ∙ c.if-link-pairs.false));
+      node = λ facts.
+          subst (λ (b : Bool). MatchBool b (Exact (history_in c.args.case.now) c.args.pairs.now q) (Clash (history_in c.args.case.now) c.args.pairs.now)) (sym c.if-link-pairs.false)
+          (pairs_clash c.args.case.now c.args.pairs.now c.requires.inside o c.requires.bare p c.if-not-link-events.ensures.pairs c.if-link-pairs.ensures.pairs);
+    }
+
+pub returns-then-not-link-events : goal.returns-then-not-link-events
+returns-then-not-link-events g c = record {
+  kept = c.link-events.ensures.kept;
+  closed = λ t. absurd (true≢false (sym t));
+  node = λ facts. events_clash c.args.case.now c.args.pairs.now c.requires.inside c.args.self.now c.requires.bare c.if-not-link-events.ensures.pairs;
+}

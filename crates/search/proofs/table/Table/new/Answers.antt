@@ -1,0 +1,11 @@
+use Rattle.std.proofs.Common.{refl, arith, rules}
+use lib.ListN.{length-replicate}
+use Rattle.search.proofs.Backs.{in_fill}
+use Rattle.search.proofs.table.Table.new.Goals as goal
+
+pub invariant-of-result : goal.invariant-of-result
+invariant-of-result g c =
+    (omega arith, (omega arith, (length-replicate g.row.N c.new-empty.result, (length-replicate g.row.T 0, (length-replicate g.row.T c.new-empty.result, (omega arith, (λ k l. absurd (omega arith), tt)))))))
+
+pub returns : goal.returns
+returns g c = record { rows = in_fill g.row.N c.new-empty.result c.new-empty.ensures; len = refl }

@@ -1,0 +1,44 @@
+//! How pairs that are given go into a closure.
+ghost use Rattle.std.specs.Prelude.{◌≡◌, ℕ, ◌<◌, true};
+ghost use Rattle.search.specs.Sets.{has};
+ghost use Rattle.search.specs.Closures.{earlier, Raised, RowsBelow, HasRow, HasRows, PairsWithin, HasPairs};
+
+use super::Closure;
+use crate::set::EventSet;
+
+impl<const N: usize, const W: usize> Closure<N, W> {
+    /// Puts `x` before each of the events listed.
+    fn link_row(&mut self, x: usize, row: &EventSet<W>)
+        requires inside { x < self.old.count }
+        requires listed { (y : ℕ) → has row.now y ≡ true → y < self.old.count }
+        ensures linked { HasRow x row.now (earlier self.new) }
+        ensures raised { Raised (HasRow x row.now) self.old self.new }
+    {
+        let mut rest = *row;
+        while let Some(y) = rest.pop() {
+            self.link(x, y);
+        }
+    }
+
+    /// Puts each event before all events of its row.
+    pub fn link_rows(&mut self, rows: &[EventSet<W>; N])
+        requires { RowsBelow self.old.count rows.now }
+        ensures linked { HasRows self.old.count rows.now (earlier self.new) }
+        ensures raised { Raised (HasRows self.old.count rows.now) self.old self.new }
+    {
+        for x in 0..self.count {
+            self.link_row(x, &rows[x]);
+        }
+    }
+
+    /// Puts the first event of each pair before the second; the pairs have the events by number, from 1.
+    pub fn link_pairs(&mut self, pairs: &[(u16, u16)])
+        requires { PairsWithin self.old.count pairs.now }
+        ensures linked { HasPairs pairs.now (earlier self.new) }
+        ensures raised { Raised (HasPairs pairs.now) self.old self.new }
+    {
+        for pair in pairs {
+            self.link(pair.0 as usize - 1, pair.1 as usize - 1);
+        }
+    }
+}

@@ -1,0 +1,30 @@
+//! The events of a case, with the pairs whose order is kept.
+ghost use Rattle.std.specs.Prelude.{◌≡◌, ℕ, ◌*◌, ◌<◌, ◌≤◌, true, length};
+ghost use Rattle.order.specs.Opening.{Accepted};
+ghost use Rattle.search.specs.Rows.{in_rows};
+ghost use Rattle.search.specs.Histories.{history_from};
+
+use crate::set::EventSet;
+use history::Event;
+
+mod keeping;
+mod noting;
+mod root;
+
+/// The events of a case that opening accepts, and the pairs of them that have to keep their order.
+#[derive(Drop)]
+pub struct Recorded<const N: usize, const W: usize> {
+    /// The events of the case, which stand first, and then any others.
+    events: [Event; N],
+    /// How many events the case has.
+    count: usize,
+    /// For each event the later ones that have to stay after it.
+    kept: [EventSet<W>; N],
+    ghost wide: { N ≤ 64 * W },
+    ghost narrow: { W ≤ 1024 },
+    ghost fits: { count ≤ N },
+    ghost full: { length events ≡ N },
+    ghost each: { length kept ≡ N },
+    ghost later: { (x y : ℕ) → in_rows kept x y ≡ true → (x < y) × (y < count) },
+    ghost accepted: { ∥ Accepted (history_from events count kept) ∥₁ },
+}

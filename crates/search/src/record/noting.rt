@@ -1,0 +1,55 @@
+//! The facts of a record.
+ghost use Rattle.std.specs.Prelude.{◌≡◌, ℕ, ◌<◌, Bool, nat_eq, nat_lt};
+ghost use Rattle.search.specs.Nodes.{FactsOf};
+ghost use Rattle.search.specs.Noting.{Noted, with_row};
+ghost use Rattle.search.specs.Recorded.{history_in};
+
+use super::Recorded;
+use crate::saturate::Facts;
+use history::WRITE;
+
+impl<const N: usize, const W: usize> Facts<N, W> {
+    /// The facts of a record.
+    pub fn of(case: &Recorded<N, W>) -> Facts<N, W>
+        ensures { FactsOf (history_in case.now) result }
+    {
+        let mut facts = Facts::new(case.count);
+        for x in 0..case.count {
+            facts.note_all(case, x);
+        }
+        facts
+    }
+
+    /// Notes what the event `x` has to do with each event.
+    fn note_all(&mut self, case: &Recorded<N, W>, x: usize)
+        requires { (x < case.now.count) × (self.old.count ≡ case.now.count) }
+        ensures same { self.new.count ≡ self.old.count }
+        ensures noted { (D : ℕ → ℕ → Bool) → Noted (history_in case.now) D self.old → Noted (history_in case.now) (with_row D x (λ q. nat_lt q case.now.count)) self.new }
+    {
+        for y in 0..case.count {
+            self.note(case, x, y);
+        }
+    }
+
+    /// Notes what the event `x` has to do with the event `y`.
+    fn note(&mut self, case: &Recorded<N, W>, x: usize, y: usize)
+        requires { (x < case.now.count) × (y < case.now.count) × (self.old.count ≡ case.now.count) }
+        ensures same { self.new.count ≡ self.old.count }
+        ensures noted { (D : ℕ → ℕ → Bool) → Noted (history_in case.now) D self.old → Noted (history_in case.now) (with_row D x (λ q. nat_eq q y)) self.new }
+    {
+        let first = case.events[x];
+        let second = case.events[y];
+        if first.kind != WRITE || first.star != second.star {
+            return;
+        }
+        if second.kind == WRITE {
+            if x != y {
+                self.add_mate(x, y);
+            }
+        } else if second.revision == first.revision {
+            self.add_taker(x, y);
+        } else if second.revision != 0 {
+            self.add_other(x, y);
+        }
+    }
+}

@@ -1,0 +1,108 @@
+//! What a relation has, and how a pair is added.
+ghost use Rattle.std.specs.Prelude.{◌≡◌, ℕ, ◌<◌, ◌≤◌, Bool, true, false, not, ◌&&◌, ◌||◌, MatchBool, MatchOption};
+ghost use Rattle.search.specs.Sets.{has};
+ghost use Rattle.search.specs.Rows.{in_row};
+ghost use Rattle.search.specs.Orders.{free, Roomy};
+ghost use Rattle.search.specs.Relations.{earlier, waits, Idle, Linked, Refused, Spans};
+
+use super::{Relation, Span};
+use crate::set::EventSet;
+use crate::table::Table;
+
+impl<const N: usize, const W: usize, const T: usize> Relation<N, W, T> {
+    /// The relation of so many events with no event before another, and nothing that waits.
+    pub fn new(count: usize) -> Relation<N, W, T>
+        requires { (count ≤ N) × Roomy N W T }
+        ensures count { result.count ≡ count }
+        ensures none { (x y : ℕ) → earlier result x y ≡ false }
+        ensures idle { Idle result }
+    {
+        let after = Table::new();
+        let before = Table::new();
+        let dirty = EventSet::new();
+        Relation {
+            after,
+            before,
+            dirty,
+            count,
+        }
+    }
+
+    /// How many events there are.
+    pub fn count(&self) -> usize
+        ensures { result ≡ self.now.count }
+    {
+        self.count
+    }
+
+    /// Whether `x` is before `y`.
+    pub fn precedes(&self, x: usize, y: usize) -> bool
+        requires { (x < N) × (y < N) }
+        ensures { result ≡ earlier self.now x y }
+    {
+        self.after.contains(x, y)
+    }
+
+    /// The events after `x`.
+    pub fn successors(&self, x: usize) -> EventSet<W>
+        requires { x < N }
+        ensures { (y : ℕ) → has result y ≡ earlier self.now x y }
+    {
+        self.after.row(x)
+    }
+
+    /// The events before `y`.
+    pub fn predecessors(&self, y: usize) -> EventSet<W>
+        requires { y < N }
+        ensures { (x : ℕ) → has result x ≡ earlier self.now x y }
+    {
+        self.before.row(y)
+    }
+
+    /// Adds the pair of `u` and `v` and all that follows by chains, and says yes; where that would close a cycle
+    /// it changes nothing, and says no.
+    pub fn link(&mut self, u: usize, v: usize) -> bool
+        requires { (u < self.old.count) × (v < self.old.count) }
+        ensures { MatchBool result (Linked u v self.old self.new) (Refused u v self.old self.new) }
+    {
+        if self.after.contains(u, v) {
+            return true;
+        }
+        if u == v || self.after.contains(v, u) {
+            return false;
+        }
+        self.join(u, v);
+        true
+    }
+
+    /// What the pair of `u` and `v` touches.
+    fn span(&self, u: usize, v: usize) -> Span<W>
+        requires { (u < N) × (v < N) }
+        ensures { Spans self.now u v result }
+    {
+        let mut above = self.before.row(u);
+        above.insert(u);
+        let mut below = self.after.row(v);
+        below.insert(v);
+        let heads = above.difference(&self.before.row(v));
+        let tails = below.difference(&self.after.row(u));
+        Span {
+            above,
+            below,
+            heads,
+            tails,
+        }
+    }
+
+    /// Adds a pair that is not ordered yet: all up to `u` comes before all from `v` on.
+    fn join(&mut self, u: usize, v: usize)
+        requires inside { (u < self.old.count) × (v < self.old.count) }
+        requires open { free (earlier self.old) u v ≡ true }
+        ensures { Linked u v self.old self.new }
+    {
+        let span = self.span(u, v);
+        self.dirty.union_with(&span.heads);
+        self.after.widen(&span.heads, &span.below);
+        self.before.widen(&span.tails, &span.above);
+    }
+}

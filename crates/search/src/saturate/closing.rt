@@ -1,0 +1,106 @@
+//! The two rules on a closure, followed to the end whatever clashes.
+ghost use Rattle.std.specs.Prelude.{◌≡◌, true, ◌⊎◌};
+ghost use Rattle.order.specs.History.{History};
+ghost use Rattle.search.specs.Rows.{in_rows};
+ghost use Rattle.search.specs.Laws.{Closed, Sources, Readers, Settled};
+ghost use Rattle.search.specs.Closures.{earlier, waits, Raised, Ready, Finished, MadeExact, Fits, After, Leads, Given, Filled, RowsOf, ExactHere};
+
+use super::Facts;
+use crate::closure::Closure;
+use crate::set::EventSet;
+
+impl<const N: usize, const W: usize> Closure<N, W> {
+    /// The first rule, at the write `w`: before each write that a read after `w` takes from.
+    fn before_sources(&mut self, facts: &Facts<N, W>, w: usize)
+        requires { Fits facts.now self.old w }
+        ensures raised { Raised (Closed facts.now) self.old self.new }
+        ensures rule { Sources facts.now w (earlier self.old) (earlier self.new) }
+    {
+        let mut reads = self.successors(w).intersection(&facts.others[w]);
+        while let Some(r) = reads.pop() {
+            self.link(w, facts.from[r] as usize);
+        }
+    }
+
+    /// The read `r`, which takes from `w`, before each of the writes that are listed.
+    fn lead(&mut self, facts: &Facts<N, W>, w: usize, r: usize, later: &EventSet<W>)
+        requires inside { Fits facts.now self.old w × (in_rows facts.now.takers w r ≡ true) }
+        requires listed { After facts.now self.old w later.now }
+        ensures raised { Raised (Closed facts.now) self.old self.new }
+        ensures rule { Leads r later.now self.new }
+    {
+        let mut missing = later.difference(&self.successors(r));
+        while let Some(q) = missing.pop() {
+            self.link(r, q);
+        }
+    }
+
+    /// The second rule, at the write `w`: each read that takes from it before each write of its star after it.
+    fn readers_first(&mut self, facts: &Facts<N, W>, w: usize)
+        requires { Fits facts.now self.old w }
+        ensures raised { Raised (Closed facts.now) self.old self.new }
+        ensures rule { Readers facts.now w (earlier self.old) (earlier self.new) }
+    {
+        let later = self.successors(w).intersection(&facts.mates[w]);
+        let mut takers = facts.takers[w];
+        while let Some(r) = takers.pop() {
+            self.lead(facts, w, r, &later);
+        }
+    }
+
+    /// Both rules at the write `w`.
+    fn settle(&mut self, facts: &Facts<N, W>, w: usize)
+        requires { Fits facts.now self.old w }
+        ensures raised { Raised (Closed facts.now) self.old self.new }
+        ensures rule { (waits self.new w ≡ true) ⊎ Settled facts.now (earlier self.new) w }
+    {
+        self.before_sources(facts, w);
+        self.readers_first(facts, w);
+    }
+
+    /// Adds all that the rules force.
+    pub fn saturate(&mut self, facts: &Facts<N, W>)
+        requires events { facts.now.count ≡ self.old.count }
+        requires ready { Ready facts.now self.old }
+        ensures finished { Finished facts.now self.old self.new }
+        ensures exact { MadeExact facts.now self.old self.new }
+    {
+        while let Some(w) = self.next_waiting() {
+            self.settle(facts, w);
+        }
+    }
+
+    /// The closure with the kept pairs, reads of revision 0 before the writes of their star, writes before the reads
+    /// that take from them, and the pairs that stand.
+    fn filled(
+        facts: &Facts<N, W>,
+        kept: &[EventSet<W>; N],
+        starts: &[EventSet<W>; N],
+        pairs: &[(u16, u16)],
+    ) -> Closure<N, W>
+        requires { Given facts.now kept.now starts.now pairs.now }
+        ensures { Filled facts.now kept.now starts.now pairs.now result }
+    {
+        let mut closure = Closure::new(facts.count);
+        closure.link_rows(kept);
+        closure.link_rows(starts);
+        closure.link_rows(&facts.takers);
+        closure.link_pairs(pairs);
+        closure
+    }
+
+    /// All that is before one another with these pairs standing.
+    pub fn of(
+        facts: &Facts<N, W>,
+        kept: &[EventSet<W>; N],
+        starts: &[EventSet<W>; N],
+        pairs: &[(u16, u16)],
+    ) -> Closure<N, W>
+        requires { Given facts.now kept.now starts.now pairs.now }
+        ensures { (h : History) → RowsOf h facts.now kept.now starts.now → ExactHere h pairs.now result }
+    {
+        let mut closure = Closure::filled(facts, kept, starts, pairs);
+        closure.saturate(facts);
+        closure
+    }
+}
