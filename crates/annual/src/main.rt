@@ -1,5 +1,7 @@
 //! Reads a packed history of up to 805 bytes from standard input, and prints the report on it.
 
+#![tactic(auto)]
+
 ghost use Rattle.std.specs.Prelude.{◌≤◌, IfOk};
 
 use report::report;

@@ -1,5 +1,7 @@
 //! Reads a script of calls from standard input, a line each, and prints an answer a line each.
 
+#![tactic(auto)]
+
 mod hex;
 mod script;
 mod shelf;

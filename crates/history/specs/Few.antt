@@ -1,5 +1,5 @@
 -- No layer makes a list of more than 65,535 events.
-use Rattle.std.specs.Prelude.{ℕ, ◌≤◌, Bool, true, false, cond, List, [], ◌∷◌, map, length, take, filter}
+use Rattle.std.specs.Prelude.{◌≤◌, Bool, true, false, cond, List, [], ◌∷◌, map, length, take, filter}
 use Rattle.std.proofs.Common.{arith, length-take}
 use Rattle.std.proofs.lemmas.List.{length-map}
 use Rattle.history.specs.declared.event.Event.{Event}

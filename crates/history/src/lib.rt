@@ -1,5 +1,7 @@
 //! Events, where they come from, which of them keep their order, and which is preferred.
 
+#![tactic(auto)]
+
 mod either;
 mod event;
 mod layers;

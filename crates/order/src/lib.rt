@@ -3,6 +3,8 @@
 //! The definitions stand in `specs/`. A function here does nothing: its contract is a theorem, and it
 //! is proved.
 
+#![tactic(auto)]
+
 ghost use Rattle.order.specs.Theorems.{HistoriesAreWellFormed, OpeningAccepts, SerialWordingsAgree, BeforeIsSmallest, FittingKeepsBefore, SearchEnds, SearchIsBounded, SearchDecides, JudgeIsDecided, PlacingIsBest, RunsAreLawful, LawDecidesRuns};
 ghost use Rattle.order.specs.Worked.{WorkedCases};
 

@@ -1,5 +1,7 @@
 //! The packed file: a history in as few bits as its fields need, read as a source and written from one.
 
+#![tactic(auto)]
+
 mod bits;
 mod fault;
 mod header;

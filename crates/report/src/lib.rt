@@ -1,5 +1,7 @@
 //! The printed report on a packed history.
 
+#![tactic(auto)]
+
 mod fault;
 mod printing;
 mod text;

@@ -6,7 +6,7 @@ use Rattle.history.specs.Limits.{within_limits}
 use Rattle.packed.specs.Writing.{all_fitting}
 use Rattle.packed.proofs.Grown.{at_drop}
 use Rattle.packed.proofs.writing.all_fit.Goals as goal
-use Rattle.packed.proofs.writing.all_fit.Goals.{in-Some+else-not-fits, in-default}
+use Rattle.packed.proofs.writing.all_fit.Goals.{in-Some+else-not-fits, in_default}
 
 pub returns-then-not-fits : goal.returns-then-not-fits
 returns-then-not-fits g c =
@@ -23,7 +23,7 @@ loop-i-preserved g c =
       | in-Some+else-not-fits w ↦
           c.loop-i.invariant ∙ ap all_fitting (at_drop es i w.in-Some.e (sym w.in-Some.ensures))
           ∙ ap (λ b. b && all_fitting (drop (i + 1) es)) (sym w.fits.ensures ∙ w.if-not-fits.false)
-      | in-default w ↦ absurd (numbered_there es (i + 1) (omega arith) (omega arith) (sym c.event.ensures ∙ w.in-default.is))
+      | in_default w ↦ absurd (numbered_there es (i + 1) (omega arith) (omega arith) (sym c.event.ensures ∙ w.in_default.is))
     ]
 
 pub returns : goal.returns

@@ -7,5 +7,5 @@ pub returns : goal.returns
 returns c =
     let f = fits c.args.e c.requires.fits in
     put_join
-    (put_join (put_join c.put-bits.ensures c.put-bits-2.ensures (omega arith)) c.put-bits-3.ensures (omega arith))
-    c.put-bits-4.ensures (omega arith)
+    (put_join (put_join c.put_bits.ensures c.put_bits-2.ensures (omega arith)) c.put_bits-3.ensures (omega arith))
+    c.put_bits-4.ensures (omega arith)

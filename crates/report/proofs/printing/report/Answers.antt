@@ -8,11 +8,11 @@ use Rattle.report.proofs.printing.report.Goals as goal
 head_short : (h : Header) → h.season < 2 ^ 16 → h.count < 2 ^ 16 → length (pair_line (codes "season ") h.season (codes " events ") h.count) ≤ 1024
 head_short h s n = omega (arith, pair_line_short (codes "season ") h.season (codes " events ") h.count (omega arith) (omega arith))
 
-pub put-pair-line-requires : goal.put-pair-line-requires
-put-pair-line-requires c = omega (arith, head_short c.in-Ok.h (omega arith) (omega arith))
+pub put_pair_line-requires : goal.put_pair_line-requires
+put_pair_line-requires c = omega (arith, head_short c.in-Ok.h (omega arith) (omega arith))
 
 pub returns-in-Ok : goal.returns-in-Ok
 returns-in-Ok c =
     let short = head_short c.in-Ok.h (omega arith) (omega arith) in
-    let at = c.put-pair-line.ensures.place in
+    let at = c.put_pair_line.ensures.place in
     record { answer = search rules; after = search rules; room = omega arith }

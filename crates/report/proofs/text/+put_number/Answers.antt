@@ -22,20 +22,20 @@ returns-then-n-lt10 t c =
       after = set_first c.args.buffer.now c.args.at (48 + c.args.n) (omega arith) ∙ ap (pasted c.args.buffer.now c.args.at) (sym (decimal_digit c.args.n c.if-n-lt10.true));
     }
 
-pub put-number-last-requires : goal.put-number-last-requires
-put-number-last-requires t c =
+pub put_number-last-requires : goal.put_number-last-requires
+put_number-last-requires t c =
     let more = longer c.args.n c.if-n-lt10.false c.ranges.n.fits in
     (omega arith, omega arith)
 
 pub bounds-buffer-last : goal.bounds-buffer-last
 bounds-buffer-last t c =
     let more = longer c.args.n c.if-n-lt10.false c.ranges.n.fits in
-    omega (arith, c.put-number-last.auto.buffer)
+    omega (arith, c.put_number-last.auto.buffer)
 
-pub overflow-add-result-2 : goal.overflow-add-result-2
-overflow-add-result-2 t c =
+pub overflow_add-result-2 : goal.overflow_add-result-2
+overflow_add-result-2 t c =
     let more = longer c.args.n c.if-n-lt10.false c.ranges.n.fits in
-    let lt : c.put-number-last.result < length c.put-number-last.new.buffer = omega (arith, c.put-number-last.auto.buffer) in
+    let lt : c.put_number-last.result < length c.put_number-last.new.buffer = omega (arith, c.put_number-last.auto.buffer) in
     search rules
 
 pub returns : goal.returns
@@ -47,7 +47,7 @@ returns t c =
     record {
       place = omega arith;
       after =
-          ap (λ l. set l c.put-number-last.result (48 + n % 10)) c.put-number-last.ensures.after
-          ∙ set_pasted old at (decimal (n / 10)) c.put-number-last.result (48 + n % 10) c.put-number-last.ensures.place (omega arith)
+          ap (λ l. set l c.put_number-last.result (48 + n % 10)) c.put_number-last.ensures.after
+          ∙ set_pasted old at (decimal (n / 10)) c.put_number-last.result (48 + n % 10) c.put_number-last.ensures.place (omega arith)
           ∙ ap (pasted old at) (sym (decimal_step n c.if-n-lt10.false (omega arith)));
     }

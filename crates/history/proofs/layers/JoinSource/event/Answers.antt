@@ -1,4 +1,4 @@
-use Rattle.std.proofs.Common.{◌-◌, ◌^◌, ◌<◌, ◌≤◌, ◌++◌, length, sym, ap, ◌∙◌, arith}
+use Rattle.std.proofs.Common.{◌-◌, ◌++◌, sym, ap, ◌∙◌, arith}
 use Rattle.history.specs.Lists.{numbered}
 use Rattle.history.proofs.Numbered.{numbered_take, numbered_left, numbered_right}
 use Rattle.history.proofs.layers.JoinSource.event.Goals as goal

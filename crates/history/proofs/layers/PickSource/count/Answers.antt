@@ -1,8 +1,8 @@
-use Rattle.std.proofs.Common.{◌≡◌, ◌+◌, ◌≤◌, length, filter, sym, ap, ◌∙◌, arith, take_all, eq-eqb, ne_eqb}
+use Rattle.std.proofs.Common.{◌+◌, length, filter, sym, ap, ◌∙◌, arith, take_all}
 use Rattle.history.specs.Layers.{of_star}
 use Rattle.history.proofs.Numbered.{kept_more_yes, kept_more_no, numbered_there}
 use Rattle.history.proofs.layers.PickSource.count.Goals as goal
-use Rattle.history.proofs.layers.PickSource.count.Goals.{in-Some+then-picks, in-Some+else-picks, in-default}
+use Rattle.history.proofs.layers.PickSource.count.Goals.{in-Some+then-picks, in-Some+else-picks, in_default}
 
 pub loop-i-preserved : goal.loop-i-preserved
 loop-i-preserved g c =
@@ -16,7 +16,7 @@ loop-i-preserved g c =
       | in-Some+else-picks w ↦
           let m = kept_more_no p es i w.in-Some.e (sym w.in-Some.ensures) (sym w.if-picks.ensures) in
           (omega (arith, w.seen-is), omega (arith, w.seen-is, m))
-      | in-default w ↦ absurd (numbered_there es (i + 1) (omega arith) (omega arith) (sym c.event.ensures ∙ w.in-default.is))
+      | in_default w ↦ absurd (numbered_there es (i + 1) (omega arith) (omega arith) (sym c.event.ensures ∙ w.in_default.is))
     ]
 
 pub returns : goal.returns

@@ -1,10 +1,10 @@
-use Rattle.std.proofs.Common.{◌≡◌, ℕ, zero, suc, ◌+◌, ◌<◌, ◌≤◌, List, length, None, filter, sym, refl, ap, ◌∙◌, arith, take_all, eq-eqb, ne_eqb}
+use Rattle.std.proofs.Common.{◌≡◌, ℕ, zero, suc, ◌+◌, ◌<◌, List, length, None, filter, sym, refl, ap, ◌∙◌, arith, take_all}
 use Rattle.history.specs.declared.event.Event.{Event}
 use Rattle.history.specs.Layers.{of_star}
 use Rattle.history.specs.Lists.{numbered}
 use Rattle.history.proofs.Numbered.{kept_more_yes, kept_more_no, numbered_kept, numbered_past, numbered_there}
 use Rattle.history.proofs.layers.PickSource.event.Goals as goal
-use Rattle.history.proofs.layers.PickSource.event.Goals.{in-Some+then-picks+else-seen-number, in-Some+else-picks, in-default}
+use Rattle.history.proofs.layers.PickSource.event.Goals.{in-Some+then-picks+else-seen-number, in-Some+else-picks, in_default}
 
 pub returns-then-seen-number : goal.returns-then-seen-number
 returns-then-seen-number g c =
@@ -24,7 +24,7 @@ loop-i-preserved g c =
       | in-Some+else-picks w ↦
           let m = kept_more_no p es i w.in-Some.e (sym w.in-Some.ensures) (sym w.if-picks.ensures) in
           (omega (arith, w.seen-is), omega (arith, w.seen-is, m), λ pos. let b = c.loop-i.invariant.2 pos in omega (arith, w.seen-is))
-      | in-default w ↦ absurd (numbered_there es (i + 1) (omega arith) (omega arith) (sym c.event.ensures ∙ w.in-default.is))
+      | in_default w ↦ absurd (numbered_there es (i + 1) (omega arith) (omega arith) (sym c.event.ensures ∙ w.in_default.is))
     ]
 
 beyond : (es : List Event) (n : ℕ) → (0 < n → length es < n) → None ≡ numbered es n

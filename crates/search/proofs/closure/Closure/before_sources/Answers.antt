@@ -53,5 +53,5 @@ loop-r-preserved g c =
 pub returns : goal.returns
 returns g c = record {
   raised = c.loop-r.invariant.0;
-  rule = λ x o q. elim (c.loop-r.invariant.2 x o q) [ inl h ↦ absurd (true≢false (sym h ∙ c.in-default.ensures.0 x)) | inr h ↦ h ];
+  rule = λ x o q. elim (c.loop-r.invariant.2 x o q) [ inl h ↦ absurd (true≢false (sym h ∙ c.in_default.ensures.0 x)) | inr h ↦ h ];
 }

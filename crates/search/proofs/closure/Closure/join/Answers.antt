@@ -17,8 +17,8 @@ widen-requires-2 g c =
     = λ y h. let l = tails_below c.args.self.now c.args.u c.args.v c.requires.0 c.requires.1 c.spread-spread.result c.spread-spread.ensures y h in omega arith in
     search rules
 
-pub invariant-of-self : goal.invariant-of-self
-invariant-of-self g c =
+pub invariant_of-self : goal.invariant_of-self
+invariant_of-self g c =
     let o = c.args.self.now in
     let rows = in_rows c.widen.new.rows in (
       o.wide,
@@ -31,7 +31,7 @@ invariant-of-self g c =
             (
               c.widen-2.ensures.full,
               (
-                λ x h. elim (or_cases (has o.dirty x) (has c.spread-spread.result.heads x) (sym (c.union-with.ensures x) ∙ h)) [
+                λ x h. elim (or_cases (has o.dirty x) (has c.spread-spread.result.heads x) (sym (c.union_with.ensures x) ∙ h)) [
                   | inl d ↦ o.listed x d
                   | inr e ↦ heads_below o c.args.u c.args.v c.requires.0 c.requires.1 c.spread-spread.result c.spread-spread.ensures x e
                 ],
@@ -63,6 +63,6 @@ returns g c =
     record {
       closure = smallest_added o c.args.u c.args.v c.requires.0 c.requires.1 c.spread-spread.result c.spread-spread.ensures rows c.widen.ensures.rows;
       waiting = λ x. newly_added o c.args.u c.args.v c.requires.0 c.requires.1 c.spread-spread.result c.spread-spread.ensures rows c.widen.ensures.rows x
-          (has c.union-with.new.self x) (has o.dirty x) (c.union-with.ensures x);
+          (has c.union_with.new.self x) (has o.dirty x) (c.union_with.ensures x);
       events = refl;
     }

@@ -60,5 +60,5 @@ loop-q-preserved g c =
 pub returns : goal.returns
 returns g c = record {
   raised = c.loop-q.invariant.0;
-  rule = λ q h. elim (c.loop-q.invariant.2 q h) [ inl k ↦ absurd (true≢false (sym k ∙ c.in-default.ensures.0 q)) | inr k ↦ k ];
+  rule = λ q h. elim (c.loop-q.invariant.2 q h) [ inl k ↦ absurd (true≢false (sym k ∙ c.in_default.ensures.0 q)) | inr k ↦ k ];
 }

@@ -7,11 +7,11 @@ use Rattle.search.proofs.closure.Closure.link_pairs.Goals as goal
 pub loop-pair-init : goal.loop-pair-init
 loop-pair-init g c = (raised_same (HasPairs c.args.pairs.now) c.args.self.now, λ k l. absurd (omega arith))
 
-pub overflow-sub-pair : goal.overflow-sub-pair
-overflow-sub-pair g c = (pair_within c.args.self.now.count c.args.pairs.now c.loop-pair.pair-index c.requires c.loop-pair-test.true).0.0
+pub overflow_sub-pair : goal.overflow_sub-pair
+overflow_sub-pair g c = (pair_within c.args.self.now.count c.args.pairs.now c.loop-pair.pair-index c.requires c.loop-pair-test.true).0.0
 
-pub overflow-sub-pair-in-loop-pair : goal.overflow-sub-pair-in-loop-pair
-overflow-sub-pair-in-loop-pair g c = (pair_within c.args.self.now.count c.args.pairs.now c.loop-pair.pair-index c.requires c.loop-pair-test.true).1.0
+pub overflow_sub-pair-in-loop-pair : goal.overflow_sub-pair-in-loop-pair
+overflow_sub-pair-in-loop-pair g c = (pair_within c.args.self.now.count c.args.pairs.now c.loop-pair.pair-index c.requires c.loop-pair-test.true).1.0
 
 pub link-requires : goal.link-requires
 link-requires g c =

@@ -39,6 +39,6 @@ loop-y-preserved g c =
 
 pub returns : goal.returns
 returns g c = record {
-  linked = λ y h. elim (c.loop-y.invariant.2 y h) [ inl k ↦ absurd (true≢false (sym k ∙ c.in-default.ensures.0 y)) | inr k ↦ k ];
+  linked = λ y h. elim (c.loop-y.invariant.2 y h) [ inl k ↦ absurd (true≢false (sym k ∙ c.in_default.ensures.0 y)) | inr k ↦ k ];
   raised = c.loop-y.invariant.0;
 }

@@ -4,8 +4,8 @@ use Rattle.std.proofs.lemmas.Bool.{true≢false}
 use Rattle.search.proofs.Backs.{in_fill}
 use Rattle.search.proofs.closure.Closure.new.Goals as goal
 
-pub invariant-of-result : goal.invariant-of-result
-invariant-of-result g c =
+pub invariant_of-result : goal.invariant_of-result
+invariant_of-result g c =
     let none = c.new-empty.ensures in
     let empty = in_fill g.row.N c.new-empty.result c.new-empty.ensures in (
       c.requires.1,

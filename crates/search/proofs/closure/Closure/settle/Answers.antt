@@ -6,10 +6,10 @@ pub returns : goal.returns
 returns g c =
     let f = c.args.facts.now in
     let o = c.args.self.now in
-    let p = c.before-sources.new.self in
-    let q = c.readers-first.new.self in
-    let a = c.before-sources.ensures in
-    let b = c.readers-first.ensures in
+    let p = c.before_sources.new.self in
+    let q = c.readers_first.new.self in
+    let a = c.before_sources.ensures in
+    let b = c.readers_first.ensures in
     record {
       raised = raised_then (Closed f) o p q a.raised b.raised;
       rule = both_rules f o p q c.args.w a.raised b.raised a.rule b.rule;

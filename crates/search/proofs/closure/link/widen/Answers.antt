@@ -21,7 +21,7 @@ loop-x-preserved g c =
       λ k h. c.loop-x.invariant.0 k (and_parts _ _ (sym (p.rest k) ∙ h)).1,
       simp length-set c.loop-x.invariant.1,
       λ z y.
-          put_all c.loop-x.rows c.in-Some.x _ c.union-with.new.self (has c.args.more.now) ll c.union-with.ensures z y
+          put_all c.loop-x.rows c.in-Some.x _ c.union_with.new.self (has c.args.more.now) ll c.union_with.ensures z y
           ∙ ap (λ b. b || (eqb z c.in-Some.x && has c.args.more.now y)) (c.loop-x.invariant.2 z y)
           ∙ row_by (in_rows c.args.rows.now z y) (has c.args.which.now z) (has c.loop-x.rest z) (has c.pop.new.self z) (eqb z c.in-Some.x) (has c.args.more.now y)
           (p.rest z)
@@ -30,6 +30,6 @@ loop-x-preserved g c =
 
 pub returns : goal.returns
 returns g c = record {
-  rows = λ i z y. (c.loop-x.invariant.2 z y ∙ row_all (in_rows c.args.rows.now z y) (has c.args.which.now z) (has c.loop-x.rest z) (has c.args.more.now y) (c.in-default.ensures.0 z)) i;
+  rows = λ i z y. (c.loop-x.invariant.2 z y ∙ row_all (in_rows c.args.rows.now z y) (has c.args.which.now z) (has c.loop-x.rest z) (has c.args.more.now y) (c.in_default.ensures.0 z)) i;
   full = c.loop-x.invariant.1;
 }

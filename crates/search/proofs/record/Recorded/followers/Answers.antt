@@ -12,7 +12,7 @@ use Rattle.search.proofs.Backs.{in_get}
 use Rattle.search.proofs.Turns.{one_beside}
 use Rattle.search.proofs.Records.{zeros, record_at}
 use Rattle.search.proofs.record.Recorded.followers.Goals as goal
-use Rattle.search.proofs.record.Recorded.followers.Goals.{then-comes-first, else-comes-first}
+use Rattle.search.proofs.record.Recorded.followers.Goals.{then-comes_first, else-comes_first}
 
 pub loop-y-init : goal.loop-y-init
 loop-y-init g c y =
@@ -29,16 +29,16 @@ loop-y-preserved g c =
     let here : K c.loop-y.y ≡ leads (get_or c.args.self.now.events c.args.x zeros) (get_or c.args.self.now.events c.loop-y.y zeros)
     = ap (λ (e : Event). leads e (at (history_in c.args.self.now) (suc c.loop-y.y))) (record_at c.args.self.now c.args.x c.requires)
     ∙ ap (λ (e : Event). leads (get_or c.args.self.now.events c.args.x zeros) e) (record_at c.args.self.now c.loop-y.y c.loop-y-test.true) in
-    one_beside (has c.loop-y.followers) K i A (has c.if-comes-first.followers) c.loop-y.invariant
-    (λ y ne. elim c.if-comes-first.branch [
-      | then-comes-first w ↦ ap (λ (s : EventSet g.row.W). has s y) w.followers-is ∙ w.insert.ensures y ∙ ap (λ b. b || has c.loop-y.followers y) (ne_eqb y i ne)
-      | else-comes-first w ↦ ap (λ (s : EventSet g.row.W). has s y) w.followers-is
+    one_beside (has c.loop-y.followers) K i A (has c.if-comes_first.followers) c.loop-y.invariant
+    (λ y ne. elim c.if-comes_first.branch [
+      | then-comes_first w ↦ ap (λ (s : EventSet g.row.W). has s y) w.followers-is ∙ w.insert.ensures y ∙ ap (λ b. b || has c.loop-y.followers y) (ne_eqb y i ne)
+      | else-comes_first w ↦ ap (λ (s : EventSet g.row.W). has s y) w.followers-is
     ])
-    (elim c.if-comes-first.branch [
-      | then-comes-first w ↦
+    (elim c.if-comes_first.branch [
+      | then-comes_first w ↦
           ap (λ (s : EventSet g.row.W). has s c.loop-y.y) w.followers-is ∙ w.insert.ensures c.loop-y.y ∙ ap (λ b. b || has c.loop-y.followers c.loop-y.y) (eq-eqb i i refl)
-          ∙ sym (or_right (A i) (K i) (here ∙ sym w.if-comes-first.ensures))
-      | else-comes-first w ↦
+          ∙ sym (or_right (A i) (K i) (here ∙ sym w.if-comes_first.ensures))
+      | else-comes_first w ↦
           ap (λ (s : EventSet g.row.W). has s c.loop-y.y) w.followers-is ∙ c.loop-y.invariant c.loop-y.y ∙ ap (λ b. A i || (b && K i)) (le-ltb i i (omega arith))
-          ∙ ap (λ b. A i || b) (sym (here ∙ sym w.if-comes-first.ensures))
+          ∙ ap (λ b. A i || b) (sym (here ∙ sym w.if-comes_first.ensures))
     ])

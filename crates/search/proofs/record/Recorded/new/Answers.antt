@@ -20,12 +20,12 @@ loop-x-init g c = (
 pub loop-x-preserved : goal.loop-x-preserved
 loop-x-preserved g c =
     let l : c.loop-x.x < length c.loop-x.rows = search rules in (
-      length-set c.loop-x.rows c.loop-x.x c.kept-after.result ∙ c.loop-x.invariant.0,
+      length-set c.loop-x.rows c.loop-x.x c.kept_after.result ∙ c.loop-x.invariant.0,
       λ x y.
           one_more (λ x. in_rows c.loop-x.rows x y) (λ x. kept_by (g.R.Rule.keeps c.args.rule.now) (take c.args.count c.args.events) (suc x) (suc y)) c.loop-x.x _
           (λ x. c.loop-x.invariant.1 x y)
-          (λ x ne. in_set_other c.loop-x.rows c.loop-x.x c.kept-after.result x ne y)
-          (in_set_same c.loop-x.rows c.loop-x.x c.kept-after.result l y ∙ c.kept-after.ensures y) x,
+          (λ x ne. in_set_other c.loop-x.rows c.loop-x.x c.kept_after.result x ne y)
+          (in_set_same c.loop-x.rows c.loop-x.x c.kept_after.result l y ∙ c.kept_after.ensures y) x,
     )
 
 -- the rows are as the rule says
@@ -36,8 +36,8 @@ rows_are g c many x y =
     (λ x. c.loop-x.invariant.1 x y)
     (λ x k. let b = kept_bounds c.args.events c.args.count many (g.R.Rule.keeps c.args.rule.now) x y k in omega (arith, b.0, b.1)) x
 
-pub invariant-of-result : goal.invariant-of-result
-invariant-of-result g c =
+pub invariant_of-result : goal.invariant_of-result
+invariant_of-result g c =
     let all : length c.args.events ≡ g.row.N = search rules in
     let many : c.args.count ≤ length c.args.events = omega arith in (
       c.requires.room.1,

@@ -73,5 +73,5 @@ returns-then-not-link g c =
 pub returns : goal.returns
 returns g c = record {
   kept = c.loop-r.invariant.0;
-  rule = (c.loop-r.invariant.1, λ x o q. elim (c.loop-r.invariant.3 x o q) [ inl h ↦ absurd (true≢false (sym h ∙ c.in-default.ensures.0 x)) | inr h ↦ h ]);
+  rule = (c.loop-r.invariant.1, λ x o q. elim (c.loop-r.invariant.3 x o q) [ inl h ↦ absurd (true≢false (sym h ∙ c.in_default.ensures.0 x)) | inr h ↦ h ]);
 }

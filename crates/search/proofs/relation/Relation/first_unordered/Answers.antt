@@ -48,7 +48,7 @@ loop-a-preserved g c x y l k s m z =
       | inr b ↦
           let e : x ≡ c.loop-a.a = omega arith in
           let t = c.loop-b.invariant.1 y (omega arith) (subst (λ w. in_rows c.args.facts.now.mates w y ≡ true) e m) (subst (λ w. free (earlier c.args.self.now) w y ≡ true) e z) in
-          true≢false (sym t ∙ c.in-default.ensures.0 y)
+          true≢false (sym t ∙ c.in_default.ensures.0 y)
     ]
 
 pub returns-then-a-b : goal.returns-then-a-b

@@ -24,14 +24,14 @@ widen-requires-2 g c =
     = λ y h. let l = tail_below o c.args.u c.args.v c.requires.inside.0 c.requires.inside.1 c.requires.open c.span-span.result c.span-span.ensures y h in omega arith in
     search rules
 
-pub invariant-of-self : goal.invariant-of-self
-invariant-of-self g c =
+pub invariant_of-self : goal.invariant_of-self
+invariant_of-self g c =
     let o = c.args.self.now in (
       search rules,
       (
         search rules,
         (
-          λ x h. elim (or_cases (has o.dirty x) (has c.span-span.result.heads x) (sym (c.union-with.ensures x) ∙ h)) [
+          λ x h. elim (or_cases (has o.dirty x) (has c.span-span.result.heads x) (sym (c.union_with.ensures x) ∙ h)) [
             | inl d ↦ o.listed x d
             | inr e ↦ head_below o c.args.u c.args.v c.requires.inside.0 c.requires.inside.1 c.requires.open c.span-span.result c.span-span.ensures x e
           ],
@@ -51,6 +51,6 @@ returns g c =
     record {
       closure = subst (λ (S : ℕ → ℕ → Bool). Closure (earlier o) c.args.u c.args.v S) (sym e) (closure (earlier o) (sound o).chains c.args.u c.args.v);
       waiting = λ x. waiting_is o c.args.u c.args.v c.requires.inside.0 c.requires.inside.1 c.requires.open c.span-span.result c.span-span.ensures (in_row c.widen.new.self) e x
-          (has c.union-with.new.self x) (has o.dirty x) (c.union-with.ensures x);
+          (has c.union_with.new.self x) (has o.dirty x) (c.union_with.ensures x);
       kept = record { events = refl; afters = c.widen.ensures.back; befores = c.widen-2.ensures.back };
     }

@@ -79,5 +79,5 @@ returns-then-not-link g c =
 pub returns : goal.returns
 returns g c = record {
   kept = c.loop-q.invariant.0;
-  rule = (c.loop-q.invariant.1, λ q h. elim (c.loop-q.invariant.3 q h) [ inl k ↦ absurd (true≢false (sym k ∙ c.in-default.ensures.0 q)) | inr k ↦ k ]);
+  rule = (c.loop-q.invariant.1, λ q h. elim (c.loop-q.invariant.3 q h) [ inl k ↦ absurd (true≢false (sym k ∙ c.in_default.ensures.0 q)) | inr k ↦ k ]);
 }

@@ -50,5 +50,5 @@ pub returns : goal.returns
 returns g c = record {
   kept = c.loop-y.invariant.0;
   pairs = gained_as (λ u v. (u ≡ c.args.x) × (has c.args.listed.now v ≡ true) × (has c.loop-y.rest v ≡ false)) (RowOf c.args.x c.args.listed.now) c.args.self.now c.loop-y.self
-      (λ u v k. (k.0, k.1)) (λ u v k. (k.0, k.1, c.in-default.ensures.0 v)) c.loop-y.invariant.1;
+      (λ u v k. (k.0, k.1)) (λ u v k. (k.0, k.1, c.in_default.ensures.0 v)) c.loop-y.invariant.1;
 }

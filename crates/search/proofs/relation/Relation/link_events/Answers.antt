@@ -10,8 +10,8 @@ use Rattle.search.proofs.relation.Relation.link_events.Goals as goal
 pub loop-x-init : goal.loop-x-init
 loop-x-init g c = (kept_same c.args.self.now, gained_same (Outright c.args.case.now 0) c.args.self.now (λ x y k. let l = k.0 in omega arith))
 
-pub link-all-requires : goal.link-all-requires
-link-all-requires g c =
+pub link_all-requires : goal.link_all-requires
+link_all-requires g c =
     let e = c.loop-x.invariant.0.events in
     let lx : c.loop-x.x < c.loop-x.self.count = omega arith in
     let all : (y : ℕ) → has c.followers.result y ≡ true → y < c.loop-x.self.count
@@ -22,29 +22,29 @@ pub loop-x-preserved : goal.loop-x-preserved
 loop-x-preserved g c =
     let r = c.args.case.now in
     let i : ℕ = c.loop-x.x in
-    let y = when_true _ _ c.if-not-link-all.false c.link-all.ensures.pairs in (
-      kept_then c.args.self.now c.loop-x.self c.link-all.new.self c.loop-x.invariant.0 c.link-all.ensures.kept,
+    let y = when_true _ _ c.if-not-link_all.false c.link_all.ensures.pairs in (
+      kept_then c.args.self.now c.loop-x.self c.link_all.new.self c.loop-x.invariant.0 c.link_all.ensures.kept,
       gained_then (Outright r i) (RowOf i c.followers.result) (Outright r (i + 1)) c.args.self.now c.loop-x.self c.loop-x.invariant.1
           (λ u v k. (let l = k.0 in omega arith, k.1))
           (λ u v k. (let e = k.0 in omega arith, ap (λ z. leads_in r z v) k.0 ∙ sym (c.followers.ensures v) ∙ k.1))
-          c.link-all.new.self y
+          c.link_all.new.self y
           (λ u v k. elim (cases_eq u i) [
             | inl e ↦ inr (e, c.followers.ensures v ∙ ap (λ z. leads_in r z v) (sym e) ∙ k.1)
             | inr ne ↦ inl (let l = k.0 in omega arith, k.1)
           ]),
     )
 
-pub returns-then-not-link-all : goal.returns-then-not-link-all
-returns-then-not-link-all g c =
+pub returns-then-not-link_all : goal.returns-then-not-link_all
+returns-then-not-link_all g c =
     let r = c.args.case.now in
     let i : ℕ = c.loop-x.x in
     let t = c.loop-x-test.true in
     record {
-      kept = kept_then c.args.self.now c.loop-x.self c.link-all.new.self c.loop-x.invariant.0 c.link-all.ensures.kept;
+      kept = kept_then c.args.self.now c.loop-x.self c.link_all.new.self c.loop-x.invariant.0 c.link_all.ensures.kept;
       pairs = blocked_then (Outright r i) (RowOf i c.followers.result) (Outright r c.args.case.now.count) c.args.self.now c.loop-x.self c.loop-x.invariant.1
           (λ u v k. (let l = k.0 in omega arith, k.1))
           (λ u v k. (let e = k.0 in omega arith, ap (λ z. leads_in r z v) k.0 ∙ sym (c.followers.ensures v) ∙ k.1))
-          (when_false _ _ c.if-not-link-all.true c.link-all.ensures.pairs);
+          (when_false _ _ c.if-not-link_all.true c.link_all.ensures.pairs);
     }
 
 pub returns : goal.returns

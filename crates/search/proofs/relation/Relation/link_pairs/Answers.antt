@@ -13,11 +13,11 @@ at_place n S all k l = all (get_or S k (0, 0)).0 (get_or S k (0, 0)).1 (member_a
 pub loop-a-init : goal.loop-a-init
 loop-a-init g c = (kept_same c.args.self.now, gained_same (StandingUpTo c.args.pairs.now 0) c.args.self.now (λ x y k. let l = k.1 in omega arith))
 
-pub overflow-sub-a : goal.overflow-sub-a
-overflow-sub-a g c = (at_place c.args.self.now.count c.args.pairs.now c.requires c.loop-a.a-index c.loop-a-test.true).0
+pub overflow_sub-a : goal.overflow_sub-a
+overflow_sub-a g c = (at_place c.args.self.now.count c.args.pairs.now c.requires c.loop-a.a-index c.loop-a-test.true).0
 
-pub overflow-sub-b : goal.overflow-sub-b
-overflow-sub-b g c = (at_place c.args.self.now.count c.args.pairs.now c.requires c.loop-a.a-index c.loop-a-test.true).2
+pub overflow_sub-b : goal.overflow_sub-b
+overflow_sub-b g c = (at_place c.args.self.now.count c.args.pairs.now c.requires c.loop-a.a-index c.loop-a-test.true).2
 
 pub link-requires : goal.link-requires
 link-requires g c =

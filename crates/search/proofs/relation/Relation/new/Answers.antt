@@ -4,8 +4,8 @@ use Rattle.search.specs.Rows.{in_row}
 use Rattle.search.proofs.Joins.{sound_none}
 use Rattle.search.proofs.relation.Relation.new.Goals as goal
 
-pub invariant-of-result : goal.invariant-of-result
-invariant-of-result g c = (
+pub invariant_of-result : goal.invariant_of-result
+invariant_of-result g c = (
   c.requires.0,
   (
     c.requires.1.short,

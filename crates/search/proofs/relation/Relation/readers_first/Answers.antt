@@ -67,6 +67,6 @@ returns g c = record {
     λ q x m k h.
         let lw : c.args.w < length c.args.facts.now.mates = search rules in
         let l = c.intersection-later.ensures q ∙ and_from _ _ (c.successors.ensures q ∙ h) (sym (in_get c.args.facts.now.mates c.args.w _ lw q) ∙ m) in
-        elim (c.loop-r.invariant.3 q x l k) [ inl o ↦ absurd (true≢false (sym o ∙ c.in-default.ensures.0 x)) | inr o ↦ o ],
+        elim (c.loop-r.invariant.3 q x l k) [ inl o ↦ absurd (true≢false (sym o ∙ c.in_default.ensures.0 x)) | inr o ↦ o ],
   );
 }

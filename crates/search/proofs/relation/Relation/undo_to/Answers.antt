@@ -9,8 +9,8 @@ use Rattle.search.proofs.Joins.{sound}
 use Rattle.search.proofs.Trails.{sound_at}
 use Rattle.search.proofs.relation.Relation.undo_to.Goals as goal
 
-pub invariant-of-self : goal.invariant-of-self
-invariant-of-self g c =
+pub invariant_of-self : goal.invariant_of-self
+invariant_of-self g c =
     let o = c.args.self.now in (
       search rules,
       (
@@ -21,11 +21,11 @@ invariant-of-self g c =
             ∥∥₁_map c.requires (λ m.
                 let q = m.0 in
                 let k = m.1.0 in
-                let ea : c.undo-to.new.self.len ≡ q.after.len = c.undo-to.ensures.len ∙ ap (λ (m : Mark). m.after) (sym m.1.1) in
-                let eb : c.undo-to-2.new.self.len ≡ q.before.len = c.undo-to-2.ensures.len ∙ ap (λ (m : Mark). m.before) (sym m.1.1) in
+                let ea : c.undo_to.new.self.len ≡ q.after.len = c.undo_to.ensures.len ∙ ap (λ (m : Mark). m.after) (sym m.1.1) in
+                let eb : c.undo_to-2.new.self.len ≡ q.before.len = c.undo_to-2.ensures.len ∙ ap (λ (m : Mark). m.before) (sym m.1.1) in
                 sound_at k.events
-                (rows_again q.after c.undo-to.new.self o.after k.afters c.undo-to.ensures.back ea)
-                (rows_again q.before c.undo-to-2.new.self o.before k.befores c.undo-to-2.ensures.back eb)
+                (rows_again q.after c.undo_to.new.self o.after k.afters c.undo_to.ensures.back ea)
+                (rows_again q.before c.undo_to-2.new.self o.before k.befores c.undo_to-2.ensures.back eb)
                 ea eb (sound q)),
             tt,
           ),
@@ -37,18 +37,18 @@ pub returns : goal.returns
 returns g c =
     let o = c.args.self.now in
     record {
-      marked = λ i. record { after = c.undo-to.ensures.len i; before = c.undo-to-2.ensures.len i };
+      marked = λ i. record { after = c.undo_to.ensures.len i; before = c.undo_to-2.ensures.len i };
       idle = c.new-self.ensures;
-      kept = record { events = refl; afters = c.undo-to.ensures.back; befores = c.undo-to-2.ensures.back };
-      same = λ q k e. rows_again q.after c.undo-to.new.self o.after k.afters c.undo-to.ensures.back (c.undo-to.ensures.len ∙ ap (λ (m : Mark). m.after) (sym e));
+      kept = record { events = refl; afters = c.undo_to.ensures.back; befores = c.undo_to-2.ensures.back };
+      same = λ q k e. rows_again q.after c.undo_to.new.self o.after k.afters c.undo_to.ensures.back (c.undo_to.ensures.len ∙ ap (λ (m : Mark). m.after) (sym e));
     }
 
-pub undo-to-requires : goal.undo-to-requires
-undo-to-requires g c =
+pub undo_to-requires : goal.undo_to-requires
+undo_to-requires g c =
     let low : c.args.mark.after ≤ c.args.self.now.after.len = ∥∥₁_elim c.requires (hlevel props) (λ m. omega (arith, m.1.0.afters.longer, ap (λ (k : Mark). k.after) m.1.1)) in
     search rules
 
-pub undo-to-requires-2 : goal.undo-to-requires-2
-undo-to-requires-2 g c =
+pub undo_to-requires-2 : goal.undo_to-requires-2
+undo_to-requires-2 g c =
     let low : c.args.mark.before ≤ c.args.self.now.before.len = ∥∥₁_elim c.requires (hlevel props) (λ m. omega (arith, m.1.0.befores.longer, ap (λ (k : Mark). k.before) m.1.1)) in
     search rules

@@ -5,8 +5,8 @@ use Rattle.search.proofs.Backs.{in_fill}
 use Rattle.search.proofs.Words.{get_or_zeros}
 use Rattle.search.proofs.saturate.Facts.new.Goals as goal
 
-pub invariant-of-result : goal.invariant-of-result
-invariant-of-result g c =
+pub invariant_of-result : goal.invariant_of-result
+invariant_of-result g c =
     let empty = in_fill g.row.N c.new-empty.result c.new-empty.ensures in (
       c.requires.1,
       (

@@ -37,10 +37,10 @@ returns-then-first-ne-WRITE g c = record {
 
 pub returns-then-x-y : goal.returns-then-x-y
 returns-then-x-y g c = record {
-  same = c.add-mate.ensures.same.1;
+  same = c.add_mate.ensures.same.1;
   noted = λ D n.
-      noted_mate c.args.case.now c.args.x c.args.y c.requires.0 c.requires.1 D c.args.self.now n c.add-mate.new.self c.if-x-y.true
-      c.add-mate.ensures.mates c.add-mate.ensures.rest.1 c.add-mate.ensures.rest.0 c.add-mate.ensures.same.0
+      noted_mate c.args.case.now c.args.x c.args.y c.requires.0 c.requires.1 D c.args.self.now n c.add_mate.new.self c.if-x-y.true
+      c.add_mate.ensures.mates c.add_mate.ensures.rest.1 c.add_mate.ensures.rest.0 c.add_mate.ensures.same.0
       (two_writes_serial (get_or c.args.case.now.events c.args.x zeros) (get_or c.args.case.now.events c.args.y zeros) c.if-first-ne-WRITE.false c.if-first-second.false c.if-second-eq-WRITE.true);
 }
 
@@ -57,19 +57,19 @@ returns-then-second-first g c =
     let e = c.if-second-first.true in
     let z = not_zero c.args.case.now c.args.x c.requires.0 c.if-first-ne-WRITE.false in
     record {
-      same = c.add-taker.ensures.same;
+      same = c.add_taker.ensures.same;
       noted = λ D n.
-          noted_taker c.args.case.now c.args.x c.args.y c.requires.0 c.requires.1 D c.args.self.now n c.add-taker.new.self
-          c.add-taker.ensures.takers c.add-taker.ensures.rest.1 c.add-taker.ensures.rest.0 c.add-taker.ensures.source
+          noted_taker c.args.case.now c.args.x c.args.y c.requires.0 c.requires.1 D c.args.self.now n c.add_taker.new.self
+          c.add_taker.ensures.takers c.add_taker.ensures.rest.1 c.add_taker.ensures.rest.0 c.add_taker.ensures.source
           (takes_it (get_or c.args.case.now.events c.args.x zeros) (get_or c.args.case.now.events c.args.y zeros) c.if-first-ne-WRITE.false c.if-first-second.false (is_read_lem c.args.case.now c.args.y c.requires.1 c.if-second-eq-WRITE.false) (λ k. z (sym e ∙ k)) e);
     }
 
 pub returns-then-second-ne0 : goal.returns-then-second-ne0
 returns-then-second-ne0 g c = record {
-  same = c.add-other.ensures.same.1;
+  same = c.add_other.ensures.same.1;
   noted = λ D n.
-      noted_other c.args.case.now c.args.x c.args.y c.requires.0 c.requires.1 D c.args.self.now n c.add-other.new.self
-      c.add-other.ensures.others c.add-other.ensures.rest.0 c.add-other.ensures.rest.1 c.add-other.ensures.same.0
+      noted_other c.args.case.now c.args.x c.args.y c.requires.0 c.requires.1 D c.args.self.now n c.add_other.new.self
+      c.add_other.ensures.others c.add_other.ensures.rest.0 c.add_other.ensures.rest.1 c.add_other.ensures.same.0
       (takes_other (get_or c.args.case.now.events c.args.x zeros) (get_or c.args.case.now.events c.args.y zeros) c.if-first-ne-WRITE.false c.if-first-second.false (is_read_lem c.args.case.now c.args.y c.requires.1 c.if-second-eq-WRITE.false) c.if-second-ne0.true c.if-second-first.false);
 }
 

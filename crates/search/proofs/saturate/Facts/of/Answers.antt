@@ -11,9 +11,9 @@ loop-x-init g c = (c.new-facts.ensures.count, noted_blank (history_in c.args.cas
 
 pub loop-x-preserved : goal.loop-x-preserved
 loop-x-preserved g c = (
-  c.note-all.ensures.same ∙ c.loop-x.invariant.0,
-  noted_same (history_in c.args.case.now) _ _ c.note-all.new.self (rows_more c.args.case.now.count c.loop-x.x)
-      (c.note-all.ensures.noted (λ w q. ltb w c.loop-x.x && ltb q c.args.case.now.count) c.loop-x.invariant.1),
+  c.note_all.ensures.same ∙ c.loop-x.invariant.0,
+  noted_same (history_in c.args.case.now) _ _ c.note_all.new.self (rows_more c.args.case.now.count c.loop-x.x)
+      (c.note_all.ensures.noted (λ w q. ltb w c.loop-x.x && ltb q c.args.case.now.count) c.loop-x.invariant.1),
 )
 
 pub returns : goal.returns

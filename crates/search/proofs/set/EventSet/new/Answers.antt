@@ -2,8 +2,8 @@ use lib.ListN.{length-replicate}
 use Rattle.search.proofs.Words.{none_bit}
 use Rattle.search.proofs.set.EventSet.new.Goals as goal
 
-pub invariant-of-result : goal.invariant-of-result
-invariant-of-result g c = (length-replicate g.row.W 0, tt)
+pub invariant_of-result : goal.invariant_of-result
+invariant_of-result g c = (length-replicate g.row.W 0, tt)
 
 pub returns : goal.returns
 returns g c j = none_bit g.row.W j

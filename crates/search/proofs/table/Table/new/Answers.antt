@@ -3,8 +3,8 @@ use lib.ListN.{length-replicate}
 use Rattle.search.proofs.Backs.{in_fill}
 use Rattle.search.proofs.table.Table.new.Goals as goal
 
-pub invariant-of-result : goal.invariant-of-result
-invariant-of-result g c =
+pub invariant_of-result : goal.invariant_of-result
+invariant_of-result g c =
     (omega arith, (omega arith, (length-replicate g.row.N c.new-empty.result, (length-replicate g.row.T 0, (length-replicate g.row.T c.new-empty.result, (omega arith, (λ k l. absurd (omega arith), tt)))))))
 
 pub returns : goal.returns

@@ -7,8 +7,8 @@ use Rattle.search.specs.Rows.{in_rows}
 use Rattle.search.proofs.Backs.{in_get, in_set_same, in_set_other, pushed}
 use Rattle.search.proofs.table.Table.put.Goals as goal
 
-pub invariant-of-self : goal.invariant-of-self
-invariant-of-self g c =
+pub invariant_of-self : goal.invariant_of-self
+invariant_of-self g c =
     let t = c.args.self.now in (
       t.wide,
       (
@@ -29,8 +29,8 @@ invariant-of-self g c =
       ),
     )
 
-pub invariant-of-self-3 : goal.invariant-of-self-3
-invariant-of-self-3 g c =
+pub invariant_of-self-3 : goal.invariant_of-self-3
+invariant_of-self-3 g c =
     let t = c.args.self.now in
     let la : c.args.self.now.len < length c.args.self.now.at = omega arith in (
       t.wide,
@@ -67,13 +67,13 @@ returns g c =
       len = refl;
       rows = λ z y. elim (cases_eq z c.args.x) [
         | inl e ↦ rw (e, eq-eqb c.args.x c.args.x refl, mine y)
-            (in_set_same c.args.self.now.rows c.args.x c.union-with.new.self lx y ∙ c.union-with.ensures y)
+            (in_set_same c.args.self.now.rows c.args.x c.union_with.new.self lx y ∙ c.union_with.ensures y)
         | inr ne ↦ rw (ne_eqb z c.args.x ne)
-            (in_set_other c.args.self.now.rows c.args.x c.union-with.new.self z ne y ∙ sym (or-false (in_rows c.args.self.now.rows z y)))
+            (in_set_other c.args.self.now.rows c.args.x c.union_with.new.self z ne y ∙ sym (or-false (in_rows c.args.self.now.rows z y)))
       ];
       back = record {
         longer = omega arith;
         back = pushed c.args.self.now.at c.args.self.now.old c.args.self.now.len c.args.x (get_or c.args.self.now.rows c.args.x c.index-self-x.result) R _ (omega arith) (omega arith)
-            (λ y. sym (mine y)) (λ z y ne. in_set_other c.args.self.now.rows c.args.x c.union-with.new.self z ne y);
+            (λ y. sym (mine y)) (λ z y ne. in_set_other c.args.self.now.rows c.args.x c.union_with.new.self z ne y);
       };
     }

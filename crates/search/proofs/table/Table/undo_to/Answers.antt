@@ -38,7 +38,7 @@ returns g c =
       back = c.loop-self.invariant.1;
     }
 
-pub invariant-of-self : goal.invariant-of-self
-invariant-of-self g c =
+pub invariant_of-self : goal.invariant_of-self
+invariant_of-self g c =
     let t = c.loop-self.self in
     (t.wide, (t.narrow, (simp length-set t.sized, (t.marks, (t.olds, (omega arith, (λ k l. t.held k (omega arith), tt)))))))

@@ -40,6 +40,6 @@ loop-x-preserved g c =
 pub returns : goal.returns
 returns g c = record {
   len = omega (arith, c.loop-x.invariant.1);
-  rows = λ i z y. (c.loop-x.invariant.2 z y ∙ row_all (in_row c.args.self.now z y) (has c.args.which.now z) (has c.loop-x.rest z) (has c.args.more.now y) (c.in-default.ensures.0 z)) i;
+  rows = λ i z y. (c.loop-x.invariant.2 z y ∙ row_all (in_row c.args.self.now z y) (has c.args.which.now z) (has c.loop-x.rest z) (has c.args.more.now y) (c.in_default.ensures.0 z)) i;
   back = c.loop-x.invariant.3;
 }

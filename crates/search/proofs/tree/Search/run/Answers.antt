@@ -20,12 +20,12 @@ walks x e = ∥∥₁_map x.sound (λ y. (y.0, y.1, x.steps, running x y.0 y.1 e
 pub loop-self-init : goal.loop-self-init
 loop-self-init g c = ((λ h S k. k), inr refl)
 
-pub returns-in-default : goal.returns-in-default
-returns-in-default g c h S k = record {
+pub returns-in_default : goal.returns-in_default
+returns-in_default g c h S k = record {
   answer = refl;
   same = c.loop-self.invariant.0 h S k;
   within = c.loop-self.invariant.1;
-  stopped = λ e. absurd (c.in-default.not-Running e);
+  stopped = λ e. absurd (c.in_default.not-Running e);
 }
 
 pub visit-self-requires : goal.visit-self-requires
@@ -33,14 +33,14 @@ visit-self-requires g c =
     let o = c.loop-self.self.walk.relation in
     (walk_small g.row.N g.row.W g.row.T o.after.wide o.after.narrow o.short, walks c.loop-self.self c.in-Running.is)
 
-pub overflow-add-self : goal.overflow-add-self
-overflow-add-self g c =
+pub overflow_add-self : goal.overflow_add-self
+overflow_add-self g c =
     let lt : c.loop-self.self.steps < c.args.limit = c.loop-self-test.true in
     let fits = c.ranges.limit.fits in
     search rules
 
-pub invariant-of-self : goal.invariant-of-self
-invariant-of-self g c =
+pub invariant_of-self : goal.invariant_of-self
+invariant_of-self g c =
     let x = c.loop-self.self in
     (∥∥₁_map x.sound (λ y. (y.0, y.1, c.visit-self.ensures y.0 y.1 x.steps (running x y.0 y.1 c.in-Running.is y.2))), tt)
 

@@ -51,9 +51,9 @@ new-walk-requires g c =
       ),
     )
 
-pub invariant-of-result : goal.invariant-of-result
+pub invariant_of-result : goal.invariant_of-result
 unfolding After
-invariant-of-result g c =
+invariant_of-result g c =
     let h = history_in c.args.case.now in
     let S = c.args.pairs.now in (
       ∣ (

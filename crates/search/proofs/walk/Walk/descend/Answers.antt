@@ -8,8 +8,8 @@ use Rattle.search.specs.declared.walk.Choice.{Choice}
 use Rattle.search.proofs.Ways.{latest_put, descend_more, descend_none, descend_room}
 use Rattle.search.proofs.walk.Walk.descend.Goals as goal
 
-pub first-unordered-requires : goal.first-unordered-requires
-first-unordered-requires g c =
+pub first_unordered-requires : goal.first_unordered-requires
+first_unordered-requires g c =
     let w = c.args.self.now in
     let same : w.facts.count ≡ w.relation.count = ∥∥₁_elim c.requires (hlevel props) (λ x. x.3.along.facts.events ∙ sym x.3.exact.events) in
     search rules
@@ -19,8 +19,8 @@ bounds-self-self g c =
     let w = c.args.self.now in
     ∥∥₁_elim c.requires (hlevel props) (λ x. descend_room x.0 x.1 x.2 w c.lowest.result c.in-Some.a c.in-Some.b c.in-Some.ensures x.3)
 
-pub invariant-of-self : goal.invariant-of-self
-invariant-of-self g c =
+pub invariant_of-self : goal.invariant_of-self
+invariant_of-self g c =
     let w = c.args.self.now in
     let lt : w.depth < g.row.T = ∥∥₁_elim c.requires (hlevel props) (λ x. descend_room x.0 x.1 x.2 w c.lowest.result c.in-Some.a c.in-Some.b c.in-Some.ensures x.3) in
     (simp length-set w.sized, (omega arith, tt))

@@ -10,8 +10,8 @@ use Rattle.search.proofs.walk.Walk.retreat.Goals as goal
 pub loop-self-init : goal.loop-self-init
 loop-self-init g c = λ h S s k. k
 
-pub undo-to-requires : goal.undo-to-requires
-undo-to-requires g c =
+pub undo_to-requires : goal.undo_to-requires
+undo_to-requires g c =
     let w = c.loop-self.self in
     let top = latest_top w.choices w.depth (omega arith) in
     let marked = ∥∥₁_map c.requires (λ x. retreat_marked x.0 x.1 x.2 w _ _ top (not-true _ c.if-not-c.true) (c.loop-self.invariant x.0 x.1 x.2 x.3)) in
@@ -22,7 +22,7 @@ returns-then-not-c g c h S s k =
     let w = c.loop-self.self in
     let top = latest_top w.choices w.depth (omega arith) in
     let lt : w.depth - 1 < length w.choices = omega (arith, w.sized, w.deep) in
-    retreat_turn h S s w _ _ _ top (latest_put w.choices (w.depth - 1) _ lt) refl c.undo-to.ensures (not-true _ c.if-not-c.true) (c.loop-self.invariant h S s k)
+    retreat_turn h S s w _ _ _ top (latest_put w.choices (w.depth - 1) _ lt) refl c.undo_to.ensures (not-true _ c.if-not-c.true) (c.loop-self.invariant h S s k)
 
 pub loop-self-preserved : goal.loop-self-preserved
 loop-self-preserved g c h S s k =
