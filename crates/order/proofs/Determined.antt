@@ -17,21 +17,21 @@ use Rattle.order.proofs.Ledger.{AllWrites, enters}
 
 -- One answer to each call.
 judge_once : {h : History} {S : List (ℕ × ℕ)} {budget : ℕ} {r q : Answer} → JudgeAnswers h S budget r → JudgeAnswers h S budget q → r ≡ q
-judge_once (JudgeAnswers.no-budget e) (JudgeAnswers.no-budget d) = refl
-judge_once (JudgeAnswers.no-budget e) (JudgeAnswers.judges l j) = absurd (omega arith)
-judge_once (JudgeAnswers.judges l j) (JudgeAnswers.no-budget d) = absurd (omega arith)
+judge_once (JudgeAnswers.no_budget e) (JudgeAnswers.no_budget d) = refl
+judge_once (JudgeAnswers.no_budget e) (JudgeAnswers.judges l j) = absurd (omega arith)
+judge_once (JudgeAnswers.judges l j) (JudgeAnswers.no_budget d) = absurd (omega arith)
 judge_once (JudgeAnswers.judges {v = v} {steps = s} l j) (JudgeAnswers.judges {v = w} {steps = u} m k) =
     let e = judges_once w v u s k j in λ i. judged (e.0 i) (e.1 i)
 
 show_once : {h : History} {S : List (ℕ × ℕ)} {P : Type 0} {f : Preference} {buffer : List ℕ} {r q : Answer} {x y : List ℕ} →
     ShowAnswers h S P f buffer r x → ShowAnswers h S P f buffer q y → (r ≡ q) × (x ≡ y)
-show_once (ShowAnswers.not-serial n) (ShowAnswers.not-serial m) = (refl, refl)
-show_once (ShowAnswers.not-serial n) (ShowAnswers.too_short p l) = absurd (n p)
-show_once (ShowAnswers.not-serial n) (ShowAnswers.shows p l s d) = absurd (n p)
-show_once (ShowAnswers.too_short p l) (ShowAnswers.not-serial n) = absurd (n p)
+show_once (ShowAnswers.not_serial n) (ShowAnswers.not_serial m) = (refl, refl)
+show_once (ShowAnswers.not_serial n) (ShowAnswers.too_short p l) = absurd (n p)
+show_once (ShowAnswers.not_serial n) (ShowAnswers.shows p l s d) = absurd (n p)
+show_once (ShowAnswers.too_short p l) (ShowAnswers.not_serial n) = absurd (n p)
 show_once (ShowAnswers.too_short p l) (ShowAnswers.too_short q m) = (refl, refl)
 show_once (ShowAnswers.too_short p l) (ShowAnswers.shows q m s d) = absurd (omega arith)
-show_once (ShowAnswers.shows p l s d) (ShowAnswers.not-serial n) = absurd (n p)
+show_once (ShowAnswers.shows p l s d) (ShowAnswers.not_serial n) = absurd (n p)
 show_once (ShowAnswers.shows p l s d) (ShowAnswers.too_short q m) = absurd (omega arith)
 show_once {h} {x = x} {y = y} (ShowAnswers.shows p l s d) (ShowAnswers.shows q m t e) =
     (refl, sym (take-append-drop (count h) x) ∙ ap (λ z. z ++ drop (count h) x) (shows_once s t) ∙ ap (λ z. take (count h) y ++ z) (d ∙ sym e) ∙ take-append-drop (count h) y)
@@ -107,7 +107,7 @@ module _ (h : History) (well : WellFormed h) (acc : Accepted h) where
 
   judges : (m : Held) → Backed h m → (budget : ℕ) → Next m (judge budget)
   judges m k budget = elim (ℕ_discrete budget 0) [
-    | yes e ↦ (record { call = judge budget; answer = refused 27; after = [] }, m, refl, record { law = (JudgeAnswers.no-budget e, refl); pairs = refl; state = refl }, k)
+    | yes e ↦ (record { call = judge budget; answer = refused 27; after = [] }, m, refl, record { law = (JudgeAnswers.no_budget e, refl); pairs = refl; state = refl }, k)
     | no n ↦ let r = judge_is_decided_lem h m.pairs budget well acc (inside m k) in (
       record { call = judge budget; answer = judged r.0 r.1; after = [] },
       record { pairs = m.pairs; state = standing r.0 },
@@ -125,7 +125,7 @@ module _ (h : History) (well : WellFormed h) (acc : Accepted h) where
   shows m k f buffer = go m.state refl
     where
       refuses : ¬ (m.state ≡ standing serial) → Next m (show f buffer)
-      refuses n = (record { call = show f buffer; answer = refused 28; after = buffer }, m, refl, record { law = ShowAnswers.not-serial n; pairs = refl; state = refl }, k)
+      refuses n = (record { call = show f buffer; answer = refused 28; after = buffer }, m, refl, record { law = ShowAnswers.not_serial n; pairs = refl; state = refl }, k)
 
       go : (s : State) → m.state ≡ s → Next m (show f buffer)
       go unjudged e = refuses (λ d. unjudged_never (sym e ∙ d))

@@ -16,7 +16,7 @@ turn_law h S P Q (judge budget) r after f g l = l
 turn_law h S P Q (show p buffer) r after f g l = go l
   where
     go : {r : Answer} {after : List ℕ} → ShowAnswers h S P p buffer r after → ShowAnswers h S Q p buffer r after
-    go (ShowAnswers.not-serial n) = ShowAnswers.not-serial (λ q. n (g q))
+    go (ShowAnswers.not_serial n) = ShowAnswers.not_serial (λ q. n (g q))
     go (ShowAnswers.too_short q l) = ShowAnswers.too_short (f q) l
     go (ShowAnswers.shows q l s d) = ShowAnswers.shows (f q) l s d
 
@@ -61,12 +61,12 @@ effect h S P lift r after l = go (eqb (length S) 0) _ _ l.0
 effect h S P (judge budget) r after l = go l.0
   where
     go : {r : Answer} → JudgeAnswers h S budget r → Effect (record { call = judge budget; answer = r; after = after })
-    go (JudgeAnswers.no-budget e) = refused_leaves (judge budget) after (refused 27) 27 refl
+    go (JudgeAnswers.no_budget e) = refused_leaves (judge budget) after (refused 27) 27 refl
     go (JudgeAnswers.judges {v = v} {steps = steps} l j) = Effect.gives v budget steps refl refl
 effect h S P (show f buffer) r after l = go l
   where
     go : {r : Answer} {after : List ℕ} → ShowAnswers h S P f buffer r after → Effect (record { call = show f buffer; answer = r; after = after })
-    go (ShowAnswers.not-serial n) = Effect.leaves (λ s. refl) (λ x y. x)
+    go (ShowAnswers.not_serial n) = Effect.leaves (λ s. refl) (λ x y. x)
     go (ShowAnswers.too_short q l) = Effect.leaves (λ s. refl) (λ x y. x)
     go (ShowAnswers.shows q l s d) = Effect.leaves (λ s. refl) (λ x y. x)
 
