@@ -12,7 +12,7 @@ use history::{Event, Source};
 
 /// Whether all events of a source fit.
 fn all_fit<S: Source>(source: &S) -> bool
-    ensures { result ≡ all_fitting (events source.now) }
+    ensures { result ≡ all_fitting (S.events source.now) }
 {
     for i in 0..source.count() {
         if let Some(e) = source.event(i + 1) {
@@ -60,11 +60,11 @@ fn put_fill(bytes: &mut [u8], count: u16)
 
 /// Writes a source that can be written into bytes that have room for it, and answers how many it took.
 fn put_all<S: Source>(source: &S, bytes: &mut [u8]) -> usize
-    requires can { Writable (season source.now) (events source.now) }
-    requires room { size (length (events source.now)) ≤ length bytes.old }
-    ensures used { result ≡ size (length (events source.now)) }
-    ensures after { bytes.new ≡ overlaid (season source.now) (events source.now) bytes.old }
-    ensures back { MeansAlone (take result bytes.new) (season source.now) (events source.now) }
+    requires can { Writable (S.season source.now) (S.events source.now) }
+    requires room { size (length (S.events source.now)) ≤ length bytes.old }
+    ensures used { result ≡ size (length (S.events source.now)) }
+    ensures after { bytes.new ≡ overlaid (S.season source.now) (S.events source.now) bytes.old }
+    ensures back { MeansAlone (take result bytes.new) (S.season source.now) (S.events source.now) }
 {
     let count = source.count();
     put_head(bytes, source.season(), count);
@@ -84,9 +84,9 @@ fn put_all<S: Source>(source: &S, bytes: &mut [u8]) -> usize
 /// star above 63 or a revision above 16,383, a season above 4,095, and a buffer that is too short. A
 /// refusal leaves the buffer as it was.
 pub fn write<S: Source>(source: &S, buffer: &mut [u8]) -> Result<usize, WriteRefusal>
-    ensures answer { result ≡ writing (season source.now) (events source.now) (length buffer.old) }
-    ensures after { buffer.new ≡ written (season source.now) (events source.now) buffer.old result }
-    ensures back { ReadsBack (season source.now) (events source.now) buffer.new result }
+    ensures answer { result ≡ writing (S.season source.now) (S.events source.now) (length buffer.old) }
+    ensures after { buffer.new ≡ written (S.season source.now) (S.events source.now) buffer.old result }
+    ensures back { ReadsBack (S.season source.now) (S.events source.now) buffer.new result }
 {
     let count = source.count();
     if count > 256 {
