@@ -20,41 +20,22 @@ widen-requires-2 g c =
 pub invariant_of-self : goal.invariant_of-self
 invariant_of-self g c =
     let o = c.args.self.now in
-    let rows = in_rows c.widen.new.rows in (
-      o.wide,
-      (
-        o.narrow,
-        (
-          o.fits,
-          (
-            c.widen.ensures.full,
-            (
-              c.widen-2.ensures.full,
-              (
-                λ x h. elim (or_cases (has o.dirty x) (has c.spread-spread.result.heads x) (sym (c.union_with.ensures x) ∙ h)) [
-                  | inl d ↦ o.listed x d
-                  | inr e ↦ heads_below o c.args.u c.args.v c.requires.0 c.requires.1 c.spread-spread.result c.spread-spread.ensures x e
-                ],
-                (
-                  first_added o c.args.u c.args.v c.requires.0 c.requires.1 c.spread-spread.result c.spread-spread.ensures rows c.widen.ensures.rows,
-                  (
-                    second_added o c.args.u c.args.v c.requires.0 c.requires.1 c.spread-spread.result c.spread-spread.ensures rows c.widen.ensures.rows,
-                    (
-                      mirror_added o c.args.u c.args.v c.requires.0 c.requires.1 c.spread-spread.result c.spread-spread.ensures rows c.widen.ensures.rows
-                          (in_rows c.widen-2.new.rows) c.widen-2.ensures.rows,
-                      (
-                        ∣ (smallest_added o c.args.u c.args.v c.requires.0 c.requires.1 c.spread-spread.result c.spread-spread.ensures rows c.widen.ensures.rows).chains ∣₁,
-                        tt,
-                      ),
-                    ),
-                  ),
-                ),
-              ),
-            ),
-          ),
-        ),
-      ),
-    )
+    let rows = in_rows c.widen.new.rows in record {
+      wide = o.wide;
+      narrow = o.narrow;
+      fits = o.fits;
+      rows = c.widen.ensures.full;
+      columns = c.widen-2.ensures.full;
+      listed = λ x h. elim (or_cases (has o.dirty x) (has c.spread-spread.result.heads x) (sym (c.union_with.ensures x) ∙ h)) [
+        | inl d ↦ o.listed x d
+        | inr e ↦ heads_below o c.args.u c.args.v c.requires.0 c.requires.1 c.spread-spread.result c.spread-spread.ensures x e
+      ];
+      firsts = first_added o c.args.u c.args.v c.requires.0 c.requires.1 c.spread-spread.result c.spread-spread.ensures rows c.widen.ensures.rows;
+      seconds = second_added o c.args.u c.args.v c.requires.0 c.requires.1 c.spread-spread.result c.spread-spread.ensures rows c.widen.ensures.rows;
+      mirror = mirror_added o c.args.u c.args.v c.requires.0 c.requires.1 c.spread-spread.result c.spread-spread.ensures rows c.widen.ensures.rows
+          (in_rows c.widen-2.new.rows) c.widen-2.ensures.rows;
+      chains = ∣ (smallest_added o c.args.u c.args.v c.requires.0 c.requires.1 c.spread-spread.result c.spread-spread.ensures rows c.widen.ensures.rows).chains ∣₁;
+    }
 
 pub returns : goal.returns
 returns g c =

@@ -39,25 +39,7 @@ rows_are g c many x y =
 pub invariant_of-result : goal.invariant_of-result
 invariant_of-result g c =
     let all : length c.args.events ≡ g.row.N = search rules in
-    let many : c.args.count ≤ length c.args.events = omega arith in (
-      c.requires.room.1,
-      (
-        c.requires.room.2,
-        (
-          c.requires.room.0,
-          (
-            all,
-            (
-              c.loop-x.invariant.0,
-              (
-                λ x y h. kept_bounds c.args.events c.args.count many (g.R.Rule.keeps c.args.rule.now) x y (sym (rows_are g c many x y) ∙ h),
-                (∣ (opening_accepts_lem (history_from c.args.events c.args.count c.loop-x.rows)).0 c.requires.opens ∣₁, tt),
-              ),
-            ),
-          ),
-        ),
-      ),
-    )
+    let many : c.args.count ≤ length c.args.events = omega arith in record { wide = c.requires.room.1; narrow = c.requires.room.2; fits = c.requires.room.0; full = all; each = c.loop-x.invariant.0; later = λ x y h. kept_bounds c.args.events c.args.count many (g.R.Rule.keeps c.args.rule.now) x y (sym (rows_are g c many x y) ∙ h); accepted = ∣ (opening_accepts_lem (history_from c.args.events c.args.count c.loop-x.rows)).0 c.requires.opens ∣₁ }
 
 pub returns : goal.returns
 returns g c =

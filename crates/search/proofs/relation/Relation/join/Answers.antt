@@ -26,23 +26,16 @@ widen-requires-2 g c =
 
 pub invariant_of-self : goal.invariant_of-self
 invariant_of-self g c =
-    let o = c.args.self.now in (
-      search rules,
-      (
-        search rules,
-        (
-          λ x h. elim (or_cases (has o.dirty x) (has c.span-span.result.heads x) (sym (c.union_with.ensures x) ∙ h)) [
-            | inl d ↦ o.listed x d
-            | inr e ↦ head_below o c.args.u c.args.v c.requires.inside.0 c.requires.inside.1 c.requires.open c.span-span.result c.span-span.ensures x e
-          ],
-          (
-            ∣ sound_joined o c.args.u c.args.v c.requires.inside.0 c.requires.inside.1 c.requires.open c.span-span.result c.span-span.ensures
-                c.widen.new.self c.widen-2.new.self c.widen.ensures.rows c.widen-2.ensures.rows c.widen.ensures.len c.widen-2.ensures.len ∣₁,
-            tt,
-          ),
-        ),
-      ),
-    )
+    let o = c.args.self.now in record {
+      fits = search rules;
+      short = search rules;
+      listed = λ x h. elim (or_cases (has o.dirty x) (has c.span-span.result.heads x) (sym (c.union_with.ensures x) ∙ h)) [
+        | inl d ↦ o.listed x d
+        | inr e ↦ head_below o c.args.u c.args.v c.requires.inside.0 c.requires.inside.1 c.requires.open c.span-span.result c.span-span.ensures x e
+      ];
+      sound = ∣ sound_joined o c.args.u c.args.v c.requires.inside.0 c.requires.inside.1 c.requires.open c.span-span.result c.span-span.ensures
+          c.widen.new.self c.widen-2.new.self c.widen.ensures.rows c.widen-2.ensures.rows c.widen.ensures.len c.widen-2.ensures.len ∣₁;
+    }
 
 pub returns : goal.returns
 returns g c =

@@ -11,27 +11,20 @@ use Rattle.search.proofs.relation.Relation.undo_to.Goals as goal
 
 pub invariant_of-self : goal.invariant_of-self
 invariant_of-self g c =
-    let o = c.args.self.now in (
-      search rules,
-      (
-        search rules,
-        (
-          λ x h. absurd (true≢false (sym h ∙ c.new-self.ensures x)),
-          (
-            ∥∥₁_map c.requires (λ m.
-                let q = m.0 in
-                let k = m.1.0 in
-                let ea : c.undo_to.new.self.len ≡ q.after.len = c.undo_to.ensures.len ∙ ap (λ (m : Mark). m.after) (sym m.1.1) in
-                let eb : c.undo_to-2.new.self.len ≡ q.before.len = c.undo_to-2.ensures.len ∙ ap (λ (m : Mark). m.before) (sym m.1.1) in
-                sound_at k.events
-                (rows_again q.after c.undo_to.new.self o.after k.afters c.undo_to.ensures.back ea)
-                (rows_again q.before c.undo_to-2.new.self o.before k.befores c.undo_to-2.ensures.back eb)
-                ea eb (sound q)),
-            tt,
-          ),
-        ),
-      ),
-    )
+    let o = c.args.self.now in record {
+      fits = search rules;
+      short = search rules;
+      listed = λ x h. absurd (true≢false (sym h ∙ c.new-self.ensures x));
+      sound = ∥∥₁_map c.requires (λ m.
+          let q = m.0 in
+          let k = m.1.0 in
+          let ea : c.undo_to.new.self.len ≡ q.after.len = c.undo_to.ensures.len ∙ ap (λ (m : Mark). m.after) (sym m.1.1) in
+          let eb : c.undo_to-2.new.self.len ≡ q.before.len = c.undo_to-2.ensures.len ∙ ap (λ (m : Mark). m.before) (sym m.1.1) in
+          sound_at k.events
+          (rows_again q.after c.undo_to.new.self o.after k.afters c.undo_to.ensures.back ea)
+          (rows_again q.before c.undo_to-2.new.self o.before k.befores c.undo_to-2.ensures.back eb)
+          ea eb (sound q));
+    }
 
 pub returns : goal.returns
 returns g c =

@@ -4,7 +4,7 @@ use Rattle.search.proofs.saturate.Facts.add_other.Goals as goal
 
 pub invariant_of-self : goal.invariant_of-self
 invariant_of-self g c =
-    (c.args.self.now.wide, (c.args.self.now.narrow, (c.args.self.now.fits, ((simp length-set c.args.self.now.full), (c.args.self.now.equal, (c.args.self.now.many, (c.args.self.now.each, (put_below c.args.self.now.others _ c.args.w c.args.r c.args.self.now.count (put_in c.args.self.now.others c.args.w c.args.r _ c.insert.new.self (omega arith) c.insert.ensures) (omega arith) c.args.self.now.reads, (c.args.self.now.writes, (c.args.self.now.readers, (c.args.self.now.sources, tt)))))))))))
+    record { wide = c.args.self.now.wide; narrow = c.args.self.now.narrow; fits = c.args.self.now.fits; full = (simp length-set c.args.self.now.full); equal = c.args.self.now.equal; many = c.args.self.now.many; each = c.args.self.now.each; reads = put_below c.args.self.now.others _ c.args.w c.args.r c.args.self.now.count (put_in c.args.self.now.others c.args.w c.args.r _ c.insert.new.self (omega arith) c.insert.ensures) (omega arith) c.args.self.now.reads; writes = c.args.self.now.writes; readers = c.args.self.now.readers; sources = c.args.self.now.sources }
 
 pub returns : goal.returns
 returns g c = record { others = put_in c.args.self.now.others c.args.w c.args.r _ c.insert.new.self (omega arith) c.insert.ensures; rest = (refl, refl); same = (refl, refl) }

@@ -7,37 +7,7 @@ use Rattle.search.proofs.saturate.Facts.new.Goals as goal
 
 pub invariant_of-result : goal.invariant_of-result
 invariant_of-result g c =
-    let empty = in_fill g.row.N c.new-empty.result c.new-empty.ensures in (
-      c.requires.1,
-      (
-        c.requires.2,
-        (
-          c.requires.0,
-          (
-            length-replicate g.row.N c.new-empty.result,
-            (
-              length-replicate g.row.N c.new-empty.result,
-              (
-                length-replicate g.row.N c.new-empty.result,
-                (
-                  length-replicate g.row.N 0,
-                  (
-                    λ w r h. absurd (true≢false (sym h ∙ empty w r)),
-                    (
-                      λ w q h. absurd (true≢false (sym h ∙ empty w q)),
-                      (
-                        λ w r h. absurd (true≢false (sym h ∙ empty w r)),
-                        (λ r l. rw (get_or_zeros g.row.N r) (omega arith), tt),
-                      ),
-                    ),
-                  ),
-                ),
-              ),
-            ),
-          ),
-        ),
-      ),
-    )
+    let empty = in_fill g.row.N c.new-empty.result c.new-empty.ensures in record { wide = c.requires.1; narrow = c.requires.2; fits = c.requires.0; full = length-replicate g.row.N c.new-empty.result; equal = length-replicate g.row.N c.new-empty.result; many = length-replicate g.row.N c.new-empty.result; each = length-replicate g.row.N 0; reads = λ w r h. absurd (true≢false (sym h ∙ empty w r)); writes = λ w q h. absurd (true≢false (sym h ∙ empty w q)); readers = λ w r h. absurd (true≢false (sym h ∙ empty w r)); sources = λ r l. rw (get_or_zeros g.row.N r) (omega arith) }
 
 pub returns : goal.returns
 returns g c =

@@ -5,7 +5,7 @@ use Rattle.search.proofs.table.Table.new.Goals as goal
 
 pub invariant_of-result : goal.invariant_of-result
 invariant_of-result g c =
-    (omega arith, (omega arith, (length-replicate g.row.N c.new-empty.result, (length-replicate g.row.T 0, (length-replicate g.row.T c.new-empty.result, (omega arith, (λ k l. absurd (omega arith), tt)))))))
+    record { wide = omega arith; narrow = omega arith; sized = length-replicate g.row.N c.new-empty.result; marks = length-replicate g.row.T 0; olds = length-replicate g.row.T c.new-empty.result; deep = omega arith; held = λ k l. absurd (omega arith) }
 
 pub returns : goal.returns
 returns g c = record { rows = in_fill g.row.N c.new-empty.result c.new-empty.ensures; len = refl }

@@ -9,53 +9,22 @@ use Rattle.search.proofs.table.Table.put.Goals as goal
 
 pub invariant_of-self : goal.invariant_of-self
 invariant_of-self g c =
-    let t = c.args.self.now in (
-      t.wide,
-      (
-        t.narrow,
-        (
-          t.sized,
-          (
-            simp length-set t.marks,
-            (
-              t.olds,
-              (
-                t.deep,
-                (λ k l. let ne : k ≢ c.args.self.now.len = omega arith in rw (get_or-set_other c.args.self.now.at c.args.self.now.len k c.args.x 0 ne) (c.args.self.now.held k l), tt),
-              ),
-            ),
-          ),
-        ),
-      ),
-    )
+    let t = c.args.self.now in record { wide = t.wide; narrow = t.narrow; sized = t.sized; marks = simp length-set t.marks; olds = t.olds; deep = t.deep; held = λ k l. let ne : k ≢ c.args.self.now.len = omega arith in rw (get_or-set_other c.args.self.now.at c.args.self.now.len k c.args.x 0 ne) (c.args.self.now.held k l) }
 
 pub invariant_of-self-3 : goal.invariant_of-self-3
 invariant_of-self-3 g c =
     let t = c.args.self.now in
-    let la : c.args.self.now.len < length c.args.self.now.at = omega arith in (
-      t.wide,
-      (
-        t.narrow,
-        (
-          simp length-set t.sized,
-          (
-            simp length-set t.marks,
-            (
-              simp length-set t.olds,
-              (
-                omega arith,
-                (
-                  below_more (λ k. get_or (set c.args.self.now.at c.args.self.now.len c.args.x) k 0 < g.row.N) c.args.self.now.len
-                      (λ k l. let ne : k ≢ c.args.self.now.len = omega arith in rw (get_or-set_other c.args.self.now.at c.args.self.now.len k c.args.x 0 ne) (c.args.self.now.held k l))
-                      (rw (get_or-set_same c.args.self.now.at c.args.self.now.len c.args.x 0 la) (omega arith)),
-                  tt,
-                ),
-              ),
-            ),
-          ),
-        ),
-      ),
-    )
+    let la : c.args.self.now.len < length c.args.self.now.at = omega arith in record {
+      wide = t.wide;
+      narrow = t.narrow;
+      sized = simp length-set t.sized;
+      marks = simp length-set t.marks;
+      olds = simp length-set t.olds;
+      deep = omega arith;
+      held = below_more (λ k. get_or (set c.args.self.now.at c.args.self.now.len c.args.x) k 0 < g.row.N) c.args.self.now.len
+          (λ k l. let ne : k ≢ c.args.self.now.len = omega arith in rw (get_or-set_other c.args.self.now.at c.args.self.now.len k c.args.x 0 ne) (c.args.self.now.held k l))
+          (rw (get_or-set_same c.args.self.now.at c.args.self.now.len c.args.x 0 la) (omega arith));
+    }
 
 pub returns : goal.returns
 returns g c =

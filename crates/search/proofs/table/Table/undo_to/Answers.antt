@@ -41,4 +41,4 @@ returns g c =
 pub invariant_of-self : goal.invariant_of-self
 invariant_of-self g c =
     let t = c.loop-self.self in
-    (t.wide, (t.narrow, (simp length-set t.sized, (t.marks, (t.olds, (omega arith, (λ k l. t.held k (omega arith), tt)))))))
+    record { wide = t.wide; narrow = t.narrow; sized = simp length-set t.sized; marks = t.marks; olds = t.olds; deep = omega arith; held = λ k l. t.held k (omega arith) }

@@ -42,7 +42,7 @@ overflow_add-self g c =
 pub invariant_of-self : goal.invariant_of-self
 invariant_of-self g c =
     let x = c.loop-self.self in
-    (∥∥₁_map x.sound (λ y. (y.0, y.1, c.visit-self.ensures y.0 y.1 x.steps (running x y.0 y.1 c.in-Running.is y.2))), tt)
+    record { sound = ∥∥₁_map x.sound (λ y. (y.0, y.1, c.visit-self.ensures y.0 y.1 x.steps (running x y.0 y.1 c.in-Running.is y.2))) }
 
 pub loop-self-smaller : goal.loop-self-smaller
 loop-self-smaller g c = omega arith

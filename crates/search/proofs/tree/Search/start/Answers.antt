@@ -55,15 +55,14 @@ pub invariant_of-result : goal.invariant_of-result
 unfolding After
 invariant_of-result g c =
     let h = history_in c.args.case.now in
-    let S = c.args.pairs.now in (
-      ∣ (
+    let S = c.args.pairs.now in record {
+      sound = ∣ (
         h,
         S,
         begins_walking h S c.of-facts.result c.root-sound.new.self (not c.root-sound.result) c.new-walk.result (record_well c.args.case.now) c.requires.inside c.of-facts.ensures
             (flipped (Exact h S c.root-sound.new.self) (Clash h S) c.root-sound.result (c.root-sound.ensures.node c.of-facts.ensures)) c.new-walk.ensures,
-      ) ∣₁,
-      tt,
-    )
+      ) ∣₁;
+    }
 
 pub returns : goal.returns
 unfolding After

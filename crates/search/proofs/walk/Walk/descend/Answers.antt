@@ -23,7 +23,7 @@ pub invariant_of-self : goal.invariant_of-self
 invariant_of-self g c =
     let w = c.args.self.now in
     let lt : w.depth < g.row.T = ∥∥₁_elim c.requires (hlevel props) (λ x. descend_room x.0 x.1 x.2 w c.lowest.result c.in-Some.a c.in-Some.b c.in-Some.ensures x.3) in
-    (simp length-set w.sized, (omega arith, tt))
+    record { sized = simp length-set w.sized; deep = omega arith }
 
 pub returns-in-Some : goal.returns-in-Some
 returns-in-Some g c h S s k =
