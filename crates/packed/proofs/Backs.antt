@@ -11,7 +11,7 @@ use Rattle.packed.specs.Bits.{bit_in, field}
 use Rattle.packed.specs.Layout.{encode, size}
 use Rattle.packed.specs.Reading.{checked, season_in, event_in, events_in, season_by, events_by, season_meant, events_meant, Accepted, Means, Bytes}
 use Rattle.history.specs.Limits.{within_limits}
-use Rattle.packed.specs.Writing.{all_fitting, Writable, writing, written, overlaid}
+use Rattle.packed.specs.Writing.{all_fitting, Writable, writing, overlaid}
 use Rattle.packed.specs.RoundTrips.{MeansAlone, WrittenReadsBack, ReadWritesBack}
 use Rattle.packed.proofs.Fields.{bit_in_small, field_small}
 use Rattle.packed.proofs.Sound.{Sound, sound, accepts}

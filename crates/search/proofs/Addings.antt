@@ -1,7 +1,7 @@
 -- What adding a pair to a relation that is exactly before makes of it.
 use Rattle.std.proofs.Common.{◌≡◌, ℕ, suc, ◌+◌, ◌<◌, ◌≤◌, true, List, ◌∷◌, sym, refl, ap, ◌∙◌, subst, inl, inr, arith}
 use mathlib.Core.List.Memᴰ
-use Rattle.order.specs.History.{History, count, Number, WellFormed, PairsOfEvents}
+use Rattle.order.specs.History.{History, Number, WellFormed, PairsOfEvents}
 use Rattle.order.specs.Before.{Before, Clash}
 use Rattle.order.specs.Search.{Unordered, FirstUnordered}
 use Rattle.order.proofs.Ends.{grows, inside_more}

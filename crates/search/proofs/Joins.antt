@@ -1,11 +1,11 @@
-use Rattle.std.proofs.Common.{◌≡◌, ℕ, zero, suc, ◌+◌, ◌*◌, ◌<◌, ◌≤◌, Bool, true, false, not, ◌&&◌, ◌||◌, eqb, ◌⊎◌, sym, refl, ap, ◌∙◌, subst, inl, inr, suc-mul, mul-suc, arith}
+use Rattle.std.proofs.Common.{◌≡◌, ℕ, zero, suc, ◌+◌, ◌*◌, ◌<◌, ◌≤◌, Bool, true, false, not, ◌&&◌, ◌||◌, eqb, sym, refl, ap, ◌∙◌, subst, inl, inr, suc-mul, mul-suc, arith}
 use mathlib.Core.Logic.{∥∥₁_elim}
 use denote.Struct.Props.{props}
-use Rattle.std.proofs.lemmas.Bool.{cases_Bool, eq-eqb, ne_eqb, true≢false, or_left, or_right, or_from, and_parts, and_from, not-true, and_left, and_right, or_cases, eqb-true}
+use Rattle.std.proofs.lemmas.Bool.{cases_Bool, eq-eqb, ne_eqb, true≢false, or_left, or_right, or_from, and_parts, and_from, not-true, and_left, and_right, or_cases}
 use Rattle.search.specs.Bits.{count}
 use Rattle.search.specs.Sets.{has, size}
 use Rattle.search.specs.Rows.{in_row, widened}
-use Rattle.search.specs.Orders.{Transitive, Within, Closure, Sound, free, slack}
+use Rattle.search.specs.Orders.{Transitive, Sound, free, slack}
 use Rattle.search.specs.Relations.{earlier, Spans}
 use Rattle.search.specs.declared.table.Table.{Table}
 use Rattle.search.specs.declared.relation.Relation.{Relation}

@@ -1,6 +1,6 @@
 -- A walk takes less memory than a machine has.
 use Rattle.std.proofs.Common.{ℕ, ◌+◌, ◌-◌, ◌*◌, ◌%◌, ◌^◌, ◌<◌, ◌≤◌, mod-lt, mul-le-mul, arith}
-use prog.Memory.{up, pad}
+use prog.Memory.{up}
 
 most : (k e : ℕ) → 0 < k → up k e ≤ e + k
 most k e pos = let m = mod-lt (k - e % k) {m = k} pos in omega arith

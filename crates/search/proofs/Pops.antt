@@ -1,8 +1,8 @@
-use Rattle.std.proofs.Common.{◌≡◌, ℕ, ◌+◌, ◌*◌, ◌/◌, ◌%◌, ◌^◌, ◌<◌, Bool, true, false, not, ◌&&◌, eqb, List, length, get_or, set, refl, subst, inl, inr, arith}
+use Rattle.std.proofs.Common.{◌≡◌, ℕ, ◌+◌, ◌*◌, ◌/◌, ◌%◌, ◌^◌, ◌<◌, true, false, not, ◌&&◌, eqb, List, length, get_or, set, subst, inl, inr, arith}
 use lib.Bits.{bit_xor}
 use lib.Count.{count_trailing_zeros}
 use Rattle.std.proofs.lemmas.Bool.{cases_eq}
-use Rattle.search.specs.Bits.{bit, bit_of}
+use Rattle.search.specs.Bits.{bit_of}
 use Rattle.search.proofs.Words.{bit_zero, low_bit, low_none, toggle_bit, at_bit}
 
 -- below the lowest bit of the first word that has one, no bit is set

@@ -3,7 +3,7 @@ use Rattle.std.proofs.Common.{◌≡◌, ℕ, zero, suc, ◌+◌, ◌-◌, ◌<�
 use mathlib.Core.List.Memᴰ
 use mathlib.Core.List.{Memᴰ}
 use Rattle.std.proofs.lemmas.Bool.{true≢false, and_parts, and_from, or_left, or_right, or_cases, cases_eq, lt-ltb, ltb-true, le-leb, eq-eqb, eqb-true}
-use Rattle.order.specs.History.{History, count, at, star_of, revision_of, Number, PairsOfEvents, Write}
+use Rattle.order.specs.History.{History, at, star_of, revision_of, Number, PairsOfEvents, Write}
 use Rattle.order.specs.Before.{Before, Clash}
 use Rattle.order.specs.Opening.{is_read, is_write}
 use Rattle.order.proofs.Tests.{is_true, true_is}

@@ -1,18 +1,17 @@
 use Rattle.std.proofs.Common.{◌≡◌, ℕ, zero, suc, ◌+◌, ◌*◌, ◌<◌, ◌≤◌, Bool, true, false, not, ◌&&◌, ◌||◌, eqb, ◌⊎◌, get_or, MatchBool, sym, refl, ap, ◌∙◌, subst, inl, inr, mul-le-mul_right, add-mul, one-mul, arith}
 use mathlib.Core.Bool.{or-false}
 use Rattle.std.proofs.lemmas.Bool.{cases_Bool, cases_eq, cases_lt, true≢false, and_parts, or_left, or_right, or_cases, not-true, ne_eqb}
-use Rattle.search.specs.Sets.{has, size, Popped}
-use Rattle.search.specs.Orders.{Transitive, Within, Closure, slack}
-use Rattle.search.specs.Relations.{earlier, waits, Idle, Kept, Linked, Cyclic, Unmoved}
+use Rattle.search.specs.Sets.{size, Popped}
+use Rattle.search.specs.Orders.{Within, slack}
+use Rattle.search.specs.Relations.{earlier, waits, Idle, Linked, Cyclic, Unmoved}
 use Rattle.search.specs.Laws.{Settled, Closed, Doomed, Ready, Grown, Forced, Sources, Readers}
-use Rattle.search.specs.declared.set.EventSet.{EventSet}
 use Rattle.search.specs.declared.relation.Relation.{Relation}
 use Rattle.search.specs.declared.saturate.Facts.{Facts}
 use Rattle.search.proofs.Counts.{size_most, pop_falls, size_le}
-use Rattle.search.proofs.Links.{added, heads, closure_is, newly_heads, by_heads}
+use Rattle.search.proofs.Links.{heads, closure_is, newly_heads, by_heads}
 use Rattle.search.proofs.Slacks.{slack_le, slack_falls, free_from}
 use Rattle.search.proofs.Joins.{sound}
-use Rattle.search.proofs.Trails.{kept_same, unmoved_earlier}
+use Rattle.search.proofs.Trails.{unmoved_earlier}
 
 pub when_map : {A B C D : Type 0} (b : Bool) → (A → C) → (B → D) → MatchBool b A B → MatchBool b C D
 when_map true f g h = f h

@@ -1,4 +1,4 @@
-use Rattle.std.proofs.Common.{◌≡◌, ℕ, ◌≤◌, Bool, true, false, not, ◌&&◌, ◌||◌, MatchBool, sym, refl, ap, ◌∙◌, subst, arith}
+use Rattle.std.proofs.Common.{◌≡◌, ℕ, Bool, true, false, not, ◌&&◌, ◌||◌, MatchBool, sym, refl, ap, ◌∙◌, subst, arith}
 use Rattle.search.specs.Rows.{in_row, RowsKept}
 use Rattle.search.specs.Orders.{Sound}
 use Rattle.search.specs.Relations.{earlier, waits, mark_of, Kept, Undone, Linked, Cyclic, Unmoved}

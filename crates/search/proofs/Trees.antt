@@ -1,5 +1,5 @@
 -- How a search goes from node to node.
-use Rattle.std.proofs.Common.{◌≡◌, ℕ, zero, suc, ◌+◌, ◌<◌, ◌≤◌, List, [], ◌∷◌, sym, refl, ap, ◌∙◌, subst, add_assoc, arith}
+use Rattle.std.proofs.Common.{◌≡◌, ℕ, ◌+◌, ◌<◌, ◌≤◌, List, [], ◌∷◌, subst, arith}
 use Rattle.order.specs.History.{History, WellFormed, PairsOfEvents}
 use Rattle.order.specs.Before.{Clash}
 use Rattle.order.specs.Search.{Search, Outcome, fails, succeeds, FirstUnordered, Complete}

@@ -1,9 +1,9 @@
 -- The way of a walk, and its moves.
-use Rattle.std.proofs.Common.{◌≡◌, ℕ, zero, suc, ◌+◌, ◌-◌, ◌*◌, ◌<◌, ◌≤◌, min, Bool, true, false, cond, not, ◌≢◌, ◌⊎◌, List, [], ◌∷◌, length, get_or, set, MatchBool, sym, refl, ap, ◌∙◌, subst, inl, inr, add-one, arith, get_or-set_other, get_or-set_same}
+use Rattle.std.proofs.Common.{◌≡◌, ℕ, zero, suc, ◌+◌, ◌-◌, ◌<◌, ◌≤◌, min, Bool, true, false, cond, not, ◌≢◌, ◌⊎◌, List, [], ◌∷◌, length, get_or, set, MatchBool, sym, refl, ap, ◌∙◌, subst, inl, inr, add-one, arith, get_or-set_other, get_or-set_same}
 use Rattle.std.proofs.lemmas.Bool.{true≢false, cases_Bool}
 use Rattle.order.specs.History.{History, count, Number, WellFormed, PairsOfEvents}
 use Rattle.order.specs.Before.{Before, Clash}
-use Rattle.order.specs.Search.{Search, Outcome, fails, succeeds, Unordered, FirstUnordered, Complete}
+use Rattle.order.specs.Search.{Search, Outcome, fails, Unordered, FirstUnordered}
 use Rattle.order.proofs.Ends.{grows, inside_more}
 use Rattle.order.proofs.Saturated.{before_numbers}
 use mathlib.Core.List.Memᴰ
@@ -12,8 +12,8 @@ use Rattle.search.specs.Relations.{earlier, Kept, mark_of, Marked, Undone}
 use Rattle.search.specs.Laws.{Closed}
 use Rattle.search.specs.Nodes.{Exact, FactsOf}
 use Rattle.search.specs.Adding.{Added, OpenFrom, FirstOpen, NoneOpen}
-use Rattle.search.specs.Tree.{Waiting, Follows, Comes}
-use Rattle.search.specs.Walks.{latest, choices_of, node_of, waiting_of, from_of, Room, Back, Chosen, Way, Along, Next, Ahead, Begins, Walking, Entered, Clashed, Successful}
+use Rattle.search.specs.Tree.{Follows, Comes}
+use Rattle.search.specs.Walks.{latest, choices_of, node_of, waiting_of, from_of, Room, Way, Next, Ahead, Begins, Walking, Entered, Clashed, Successful}
 use Rattle.search.specs.declared.relation.Relation.{Relation}
 use Rattle.search.specs.declared.saturate.Facts.{Facts}
 use Rattle.search.specs.declared.walk.Choice.{Choice}
@@ -23,7 +23,7 @@ use Rattle.search.proofs.Backs.{rows_under}
 use Rattle.search.proofs.Slacks.{free_from, slack_falls}
 use Rattle.search.proofs.Joins.{sound}
 use Rattle.search.proofs.Trails.{kept_same, kept_then}
-use Rattle.search.proofs.Trees.{comes_first_lem, comes_back, comes_failed, comes_succeeded, comes_down, comes_more, Proper}
+use Rattle.search.proofs.Trees.{comes_first_lem, comes_succeeded, comes_down, comes_more, Proper}
 
 abbrev none : Choice
 none = record { first = 0; second = 0; mark = record { after = 0; before = 0 }; last = false }

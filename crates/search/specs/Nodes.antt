@@ -1,7 +1,7 @@
 -- What a relation and the facts say of a history. The event x of a relation has the number x + 1 in the history.
-use Rattle.std.specs.Prelude.{◌≡◌, ℕ, suc, true, ◌↔◌, List, ◌∷◌, slice_index}
+use Rattle.std.specs.Prelude.{◌≡◌, ℕ, suc, true, ◌↔◌, List, slice_index}
 use Rattle.order.specs.History.{History, count, TakesFrom, TwoWrites}
-use Rattle.order.specs.Before.{Before, Clash}
+use Rattle.order.specs.Before.{Before}
 use Rattle.search.specs.Rows.{in_rows}
 use Rattle.search.specs.Relations.{earlier, Idle}
 use Rattle.search.specs.declared.relation.Relation.{Relation}

@@ -1,8 +1,8 @@
-use Rattle.std.proofs.Common.{◌≡◌, ℕ, ◌+◌, ◌*◌, ◌/◌, ◌%◌, ◌^◌, ◌<◌, ◌≤◌, [], ◌∷◌, ◌++◌, length, set, decimal, sym, ap, ◌∙◌, arith, rules}
+use Rattle.std.proofs.Common.{◌≡◌, ℕ, ◌+◌, ◌/◌, ◌%◌, ◌^◌, ◌<◌, ◌≤◌, length, set, decimal, sym, ap, ◌∙◌, arith, rules}
 use Rattle.std.proofs.lemmas.Fmt.{decimal_digit, decimal_step}
 use Rattle.std.proofs.lemmas.List.{length_push}
 use Rattle.report.specs.Text.{pasted}
-use Rattle.report.proofs.Pastes.{set_pasted, set_first, length_pasted}
+use Rattle.report.proofs.Pastes.{set_pasted, set_first}
 use Rattle.report.proofs.text.+put_number.Goals as goal
 
 one_long : (n : ℕ) → n < 10 → length (decimal n) ≡ 1

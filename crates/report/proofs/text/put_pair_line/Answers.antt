@@ -1,4 +1,4 @@
-use Rattle.std.proofs.Common.{◌≡◌, ℕ, ◌+◌, ◌≤◌, List, [], ◌∷◌, ◌++◌, length, decimal, arith, length-append}
+use Rattle.std.proofs.Common.{◌≡◌, ℕ, ◌+◌, ◌≤◌, List, [], ◌∷◌, ◌++◌, length, decimal, arith}
 use Rattle.std.proofs.lemmas.List.{append_assoc}
 use Rattle.report.specs.Text.{pair_line}
 use Rattle.report.proofs.Pastes.{then, same_text, length_pair_line}

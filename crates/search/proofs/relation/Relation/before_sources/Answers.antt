@@ -1,9 +1,7 @@
-use Rattle.std.proofs.Common.{◌≡◌, ℕ, ◌<◌, Bool, true, length, get_or, sym, ap, ◌∙◌, inl, inr, arith, rules}
+use Rattle.std.proofs.Common.{ℕ, ◌<◌, length, get_or, sym, ap, ◌∙◌, inl, inr, rules}
 use Rattle.std.proofs.lemmas.Bool.{true≢false, and_parts, and_from, cases_eq, ne_eqb}
 use Rattle.std.proofs.lemmas.Bool.Decides.{when_true, when_false}
-use Rattle.search.specs.Orders.{Within}
 use Rattle.search.specs.Relations.{earlier}
-use Rattle.search.specs.Laws.{Closed}
 use Rattle.search.proofs.Counts.{pop_falls}
 use Rattle.search.proofs.Backs.{in_get}
 use Rattle.search.proofs.Trails.{kept_same, kept_then, kept_link}

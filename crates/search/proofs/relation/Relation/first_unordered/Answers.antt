@@ -1,6 +1,5 @@
-use Rattle.std.proofs.Common.{◌≡◌, ℕ, ◌<◌, ◌≤◌, Bool, true, false, length, sym, ap, ◌∙◌, subst, inl, inr, arith, rules}
-use Rattle.std.proofs.lemmas.Bool.{true≢false, and_parts, and_from, cases_eq, cases_lt, ne_eqb, not-true, not_from_false}
-use Rattle.search.specs.Sets.{has}
+use Rattle.std.proofs.Common.{◌≡◌, ◌<◌, true, length, sym, ◌∙◌, subst, inl, inr, arith, rules}
+use Rattle.std.proofs.lemmas.Bool.{true≢false, and_parts, and_from, cases_lt, ne_eqb, not-true, not_from_false}
 use Rattle.search.specs.Rows.{in_rows}
 use Rattle.search.specs.Orders.{free}
 use Rattle.search.specs.Relations.{earlier}

@@ -1,10 +1,10 @@
-use Rattle.std.proofs.Common.{◌≡◌, ℕ, ◌+◌, ◌<◌, ◌≤◌, Bool, true, sym, refl, ap, ◌∙◌, subst, inl, inr, arith, rules}
+use Rattle.std.proofs.Common.{◌≡◌, ℕ, ◌<◌, Bool, true, sym, refl, ◌∙◌, subst, inl, inr, arith, rules}
 use Rattle.std.proofs.lemmas.Bool.{or_cases}
-use Rattle.search.specs.Sets.{has, size}
+use Rattle.search.specs.Sets.{has}
 use Rattle.search.specs.Rows.{in_row}
 use Rattle.search.specs.Orders.{Closure}
 use Rattle.search.specs.Relations.{earlier}
-use Rattle.search.proofs.Links.{added, closure}
+use Rattle.search.proofs.Links.{closure}
 use Rattle.search.proofs.Joins.{sound, head_below, tail_below, after_room, before_room, after_is, waiting_is, sound_joined}
 use Rattle.search.proofs.relation.Relation.join.Goals as goal
 

@@ -1,4 +1,4 @@
-use Rattle.std.proofs.Common.{sym, ◌∙◌}
+use Rattle.std.proofs.Common.{sym}
 use Rattle.search.proofs.Trails.{linked_already}
 use Rattle.search.proofs.relation.Relation.link.Goals as goal
 

@@ -1,4 +1,3 @@
-use Rattle.std.proofs.Common.{◌≡◌, rules}
 use Rattle.search.proofs.Joins.{sound}
 use Rattle.search.proofs.relation.Relation.span.Goals as goal
 

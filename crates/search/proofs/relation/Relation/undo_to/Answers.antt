@@ -2,7 +2,6 @@ use Rattle.std.proofs.Common.{◌≡◌, ◌≤◌, sym, refl, ap, ◌∙◌, ar
 use mathlib.Core.Logic.{∥∥₁_map, ∥∥₁_elim}
 use denote.Struct.Props.{props}
 use Rattle.std.proofs.lemmas.Bool.{true≢false}
-use Rattle.search.specs.Rows.{in_row}
 use Rattle.search.specs.declared.relation.Mark.{Mark}
 use Rattle.search.proofs.Backs.{rows_again}
 use Rattle.search.proofs.Joins.{sound}

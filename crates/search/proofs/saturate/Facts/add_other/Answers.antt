@@ -1,4 +1,4 @@
-use Rattle.std.proofs.Common.{◌≡◌, refl, arith, length-set}
+use Rattle.std.proofs.Common.{refl, arith, length-set}
 use Rattle.search.proofs.Backs.{put_in, put_below}
 use Rattle.search.proofs.saturate.Facts.add_other.Goals as goal
 

@@ -1,5 +1,4 @@
 use Rattle.std.proofs.Common.{◌≡◌, ◌&&◌, ltb, sym, ◌∙◌, subst, arith}
-use Rattle.order.specs.History.{count}
 use Rattle.search.specs.Noting.{Noted}
 use Rattle.search.specs.Recorded.{history_in}
 use Rattle.search.proofs.Records.{record_count, record_accepted}

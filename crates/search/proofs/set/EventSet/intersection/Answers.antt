@@ -1,5 +1,4 @@
-use Rattle.std.proofs.Common.{◌≡◌, ℕ, ◌≤◌, length, get_or, ◌∙◌, inl, inr, arith, rules}
-use lib.Bits.{bit_and, bit_xor, and_zero_r, xor_zero_r}
+use Rattle.std.proofs.Common.{◌≡◌, length, get_or, ◌∙◌, inl, inr, arith}
 use Rattle.std.proofs.lemmas.List.{get_or_past}
 use Rattle.std.proofs.lemmas.Bool.{cases_lt}
 use Rattle.search.proofs.Words.{both_bit}

@@ -1,5 +1,5 @@
 use Rattle.std.proofs.Common.{◌≡◌, ℕ, ◌<◌, ◌≤◌, length, get_or}
-use lib.Bits.{bit_and, bit_xor}
+use lib.Bits.{bit_and}
 use Rattle.search.proofs.set.EventSet.intersection.Given as goal
 
 abbrev pub invariant-loop-i : goal.invariant-loop-i

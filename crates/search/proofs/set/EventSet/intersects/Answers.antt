@@ -1,4 +1,4 @@
-use Rattle.std.proofs.Common.{◌≡◌, ℕ, ◌^◌, ◌<◌, get_or, refl, inl, inr, arith, rules}
+use Rattle.std.proofs.Common.{◌≡◌, get_or, refl, inl, inr, arith, rules}
 use lib.Bits.{and_zero_l}
 use Rattle.std.proofs.lemmas.List.{get_or_past}
 use Rattle.std.proofs.lemmas.Bool.{cases_lt, false≢true}

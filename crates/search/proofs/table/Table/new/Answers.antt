@@ -1,4 +1,4 @@
-use Rattle.std.proofs.Common.{refl, arith, rules}
+use Rattle.std.proofs.Common.{refl, arith}
 use lib.ListN.{length-replicate}
 use Rattle.search.proofs.Backs.{in_fill}
 use Rattle.search.proofs.table.Table.new.Goals as goal

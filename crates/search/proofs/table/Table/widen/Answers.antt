@@ -1,6 +1,6 @@
-use Rattle.std.proofs.Common.{◌≡◌, ℕ, ◌<◌, Bool, ◌&&◌, ◌||◌, eqb, sym, ap, ◌∙◌, arith, rules}
+use Rattle.std.proofs.Common.{◌<◌, ◌&&◌, ◌||◌, eqb, sym, ap, ◌∙◌, arith, rules}
 use Rattle.std.proofs.lemmas.Bool.{and_parts, eqb-true}
-use Rattle.search.specs.Sets.{has, size}
+use Rattle.search.specs.Sets.{has}
 use Rattle.search.specs.Rows.{in_row}
 use Rattle.search.proofs.Counts.{pop_falls}
 use Rattle.search.proofs.Backs.{row_by, row_none, row_all, rows_same, rows_then}

@@ -1,4 +1,4 @@
-use Rattle.std.proofs.Common.{◌≡◌, ℕ, ◌+◌, ◌≤◌, Bool, true, false, not, ◌&&◌, ◌||◌}
+use Rattle.std.proofs.Common.{◌≡◌, ℕ, ◌+◌, ◌≤◌, true, not, ◌&&◌, ◌||◌}
 use Rattle.search.specs.Sets.{has, size}
 use Rattle.search.specs.Rows.{in_row, RowsKept}
 use Rattle.search.proofs.table.Table.widen.Given as goal

@@ -1,9 +1,8 @@
-use Rattle.std.proofs.Common.{◌≡◌, ℕ, ◌+◌, ◌<◌, ◌≤◌, List, refl, subst, inl, inr, arith, rules}
+use Rattle.std.proofs.Common.{◌≡◌, ℕ, ◌<◌, List, refl, subst, inl, inr, arith, rules}
 use mathlib.Core.Logic.{∥∥₁_map}
 use Rattle.order.specs.History.{History}
 use Rattle.search.specs.Walks.{After, Walking, Walks}
-use Rattle.search.specs.Searches.{SearchOf, Ran}
-use Rattle.search.specs.declared.walk.Progress.{Progress}
+use Rattle.search.specs.Searches.{SearchOf}
 use Rattle.search.specs.declared.walk.Progress.TheVariants.{Running}
 use Rattle.search.specs.declared.tree.Search.{Search}
 use Rattle.search.proofs.Memory.{walk_small}

@@ -2,7 +2,7 @@ use Rattle.std.proofs.Common.{◌≡◌, ℕ, Bool, true, false, not, length, ta
 use Rattle.order.specs.Before.{Clash}
 use Rattle.search.specs.Nodes.{Exact}
 use Rattle.search.specs.Recorded.{history_in}
-use Rattle.search.specs.Walks.{Walking, After}
+use Rattle.search.specs.Walks.{After}
 use Rattle.search.specs.declared.record.Recorded.{Recorded}
 use Rattle.search.proofs.Memory.{case_small, facts_small, relation_small, walk_small}
 use Rattle.search.proofs.Records.{record_well}

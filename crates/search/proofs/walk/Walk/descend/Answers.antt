@@ -1,8 +1,8 @@
-use Rattle.std.proofs.Common.{◌≡◌, ℕ, ◌<◌, false, ◌∷◌, length, sym, refl, ap, ◌∙◌, subst, arith, length-set, rules}
+use Rattle.std.proofs.Common.{◌≡◌, ◌<◌, false, ◌∷◌, length, sym, refl, ap, ◌∙◌, subst, arith, length-set, rules}
 use mathlib.Core.Logic.{∥∥₁_elim}
 use denote.Struct.Props.{props}
 use Rattle.search.specs.Adding.{FirstOpen, NoneOpen}
-use Rattle.search.specs.Walks.{latest, choices_of, from_of}
+use Rattle.search.specs.Walks.{choices_of, from_of}
 use Rattle.search.specs.declared.relation.Mark.{Mark}
 use Rattle.search.specs.declared.walk.Choice.{Choice}
 use Rattle.search.proofs.Ways.{latest_put, descend_more, descend_none, descend_room}

@@ -1,10 +1,10 @@
-use Rattle.std.proofs.Common.{◌≡◌, ℕ, ◌-◌, ◌<◌, true, List, ◌∷◌, length, get_or, sym, ap, subst, arith, rules}
+use Rattle.std.proofs.Common.{◌≡◌, ℕ, ◌<◌, true, List, ◌∷◌, length, subst, arith, rules}
 use mathlib.Core.Logic.{∥∥₁_elim}
 use denote.Struct.Props.{props}
 use Rattle.order.specs.History.{History}
 use Rattle.search.specs.Relations.{earlier}
 use Rattle.search.specs.Adding.{Addable}
-use Rattle.search.specs.Walks.{latest, choices_of, node_of, Walking, Walks, Way, Ahead, Next}
+use Rattle.search.specs.Walks.{choices_of, node_of, Walking, Walks, Way, Ahead, Next}
 use Rattle.search.specs.declared.walk.Choice.{Choice}
 use Rattle.search.specs.declared.walk.Walk.{Walk}
 use Rattle.search.proofs.Ways.{latest_top, exact_closed, enter_first, enter_next}

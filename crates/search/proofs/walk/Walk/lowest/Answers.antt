@@ -1,4 +1,4 @@
-use Rattle.std.proofs.Common.{◌≡◌, sym, ap, ◌∙◌, arith}
+use Rattle.std.proofs.Common.{sym, ap, ◌∙◌, arith}
 use Rattle.search.specs.Walks.{from_of}
 use Rattle.search.proofs.Ways.{latest_top}
 use Rattle.search.proofs.walk.Walk.lowest.Goals as goal

@@ -1,9 +1,6 @@
-use Rattle.std.proofs.Common.{◌≡◌, ℕ, ◌+◌, ◌-◌, ◌<◌, true, false, ◌∷◌, length, get_or, set, sym, refl, ap, ◌∙◌, subst, arith, rules}
+use Rattle.std.proofs.Common.{◌-◌, ◌<◌, length, refl, arith, rules}
 use mathlib.Core.Logic.{∥∥₁_map}
 use Rattle.std.proofs.lemmas.Bool.{not-true, not-false}
-use Rattle.search.specs.Relations.{Marked}
-use Rattle.search.specs.Walks.{latest, choices_of}
-use Rattle.search.specs.declared.walk.Choice.{Choice}
 use Rattle.search.proofs.Ways.{latest_top, latest_put, retreat_on, retreat_marked, retreat_turn, retreat_none}
 use Rattle.search.proofs.walk.Walk.retreat.Goals as goal
 
