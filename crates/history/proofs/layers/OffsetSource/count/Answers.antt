@@ -1,5 +1,6 @@
-use lib.ListN.{length-map}
+use Rattle.std.proofs.Common.{arith}
+use Rattle.std.proofs.lemmas.List.{length-map}
 use Rattle.history.proofs.layers.OffsetSource.count.Goals as goal
 
 pub returns : goal.returns
-returns g c = simp length-map c.count.ensures
+returns g c = grind (arith, length-map)

@@ -1,4 +1,4 @@
-use Rattle.std.proofs.Common.{sym, ap, ◌∙◌, arith}
+use Rattle.std.proofs.Common.{ap, arith}
 use Rattle.search.specs.Walks.{from_of}
 use Rattle.search.proofs.Ways.{latest_top}
 use Rattle.search.proofs.walk.Walk.lowest.Goals as goal
@@ -6,4 +6,5 @@ use Rattle.search.proofs.walk.Walk.lowest.Goals as goal
 pub returns : goal.returns
 returns g c =
     let w = c.args.self.now in
-    c.min.ensures ∙ sym (ap from_of (latest_top w.choices w.depth (omega arith)))
+    let top = ap from_of (latest_top w.choices w.depth (omega arith)) in
+    cc
