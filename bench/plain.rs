@@ -1,4 +1,4 @@
-//! The same report as the program `annual`, in plain Rust and with no proofs: what to measure against.
+//! The same report as the program `full_annual`, in plain Rust and with no proofs: what to measure against.
 //!
 //! Reads a packed history of up to 805 bytes from standard input and prints the report on it. The search is the one
 //! that crate `search` has, written for speed alone: a node's relation grows from its parent's, rows of bits go both

@@ -1,0 +1,39 @@
+use Rattle.std.proofs.Common.{◌≡◌, ℕ, ◌<◌, true, [], sym, ◌∙◌, subst, inl, inr, arith, rules}
+use Rattle.std.proofs.lemmas.Bool.{cases_eq}
+use Rattle.sets.specs.Sets.{has}
+use Rattle.saturation.specs.Rooting.{leads_in}
+use Rattle.saturation.proofs.Roots.{leads_below}
+use Rattle.closure.specs.Closures.{earlier, HasRow, HasEvents}
+use Rattle.closure.proofs.Raises.{raised_same, raised_then, raised_kind}
+use Rattle.closure.proofs.reach.Closure.link_events.Goals as goal
+
+pub loop-x-init : goal.loop-x-init
+loop-x-init g c = (raised_same (HasEvents c.args.case.now) c.args.self.now, λ z y l h. absurd (omega arith))
+
+pub link_row-requires : goal.link_row-requires
+link_row-requires g c =
+    let e = c.loop-x.invariant.0.events in
+    let k = c.requires in
+    let inside : (y : ℕ) → has c.followers.result y ≡ true → y < c.loop-x.self.count
+    = λ y h. let l = leads_below c.args.case.now [] c.loop-x.x y (sym (c.followers.ensures y) ∙ h) in omega arith in
+    search rules
+
+pub loop-x-preserved : goal.loop-x-preserved
+loop-x-preserved g c =
+    let x : ℕ = c.loop-x.x in
+    let r = c.args.case.now in
+    let a = c.link_row.ensures in
+    let e = c.requires in
+    let lx : c.loop-x.x < c.args.case.now.count = omega arith in (
+      raised_then (HasEvents r) c.args.self.now c.loop-x.self c.link_row.new.self c.loop-x.invariant.0
+          (raised_kind (HasRow x c.followers.result) (HasEvents r) c.loop-x.self c.link_row.new.self (λ Q all y h. all x y (lx, sym (c.followers.ensures y) ∙ h)) a.raised),
+      λ z y l h. elim (cases_eq z x) [
+        | inl e ↦ subst (λ k. earlier c.link_row.new.self k y ≡ true) (sym e) (a.linked y (c.followers.ensures y ∙ subst (λ k. leads_in r k y ≡ true) e h))
+        | inr ne ↦ a.raised.keeps z y (c.loop-x.invariant.1 z y (omega arith) h)
+      ],
+    )
+
+pub returns : goal.returns
+returns g c =
+    let e = c.requires in
+    record { linked = λ x y (l, h). c.loop-x.invariant.1 x y (omega arith) h; raised = c.loop-x.invariant.0 }

@@ -1,0 +1,5 @@
+pub mod Pastes
+pub mod Sizes
+pub mod Found
+pub mod Finds
+pub mod Only

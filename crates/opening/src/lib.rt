@@ -1,0 +1,12 @@
+//! The events of a source, copied, and the first of them that fails a check.
+
+#![tactic(auto)]
+
+mod checked;
+mod checks;
+mod copying;
+mod fault;
+
+pub use checked::Checked;
+pub use copying::check_source;
+pub use fault::HistoryFault;

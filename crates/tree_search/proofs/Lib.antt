@@ -1,0 +1,3 @@
+pub mod Trees
+pub mod Ways
+pub mod Memory
