@@ -9,7 +9,7 @@ WORDS = [
     "nonzero_rem", "overflow_add", "overflow_sub", "overflow_mul", "overflow_shl", "overflow_shr", "overflow_cast",
     "overflow_step", "overflow_neg", "from_residual", "x_index",
 ]  # fmt: skip
-TOKEN = re.compile(r"[^\s(){}\[\],;.:`\"]+")
+TOKEN = re.compile(r"[^\s(){}\[\],;.:+`\"]+")
 
 
 def merged(token, names):
