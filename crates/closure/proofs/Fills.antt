@@ -2,7 +2,7 @@
 use Rattle.std.proofs.Common.{◌≡◌, ℕ, zero, suc, ◌-◌, ◌<◌, ◌≤◌, Bool, true, false, List, length, get_or, Some, None, Option, sym, ap, ◌∙◌, subst, inl, inr, arith, MatchOption}
 use mathlib.Core.List.Memᴰ
 use Rattle.std.proofs.lemmas.Bool.{true≢false, cases_lt}
-use Rattle.order.specs.History.{PairsOfEvents}
+use Rattle.order.specs.History.{PairsOfEvents, count}
 use Rattle.order.specs.Before.{Before, Clash}
 use Rattle.order.proofs.Saturated.{before_numbers}
 use Rattle.saturation.specs.Orders.{Transitive, Within}
@@ -60,7 +60,7 @@ module _ {N W : ℕ} (r : Recorded N W) (S : List (ℕ × ℕ)) (b c d : Closure
     within = most.least Q far (more.least Q far (λ x y k. absurd (true≢false (sym k ∙ none x y))) (λ x y k. before x y (outright_e r S x y k))) (λ x y m. before x y (Before.stands m))
 
     -- all that the rules force then is exactly before
-    pub filled_exact : FactsOf (history_in r) f → b.count ≡ r.count → HasEvents r (earlier c) → HasPairs S (earlier d) → (e : Closure N W) → Finished f d e → ExactHere (history_in r) S e
+    pub filled_exact : FactsOf (history_in r) f → b.count ≡ count (history_in r) → HasEvents r (earlier c) → HasPairs S (earlier d) → (e : Closure N W) → Finished f d e → ExactHere (history_in r) S e
     filled_exact facts size given stands e done = record {
       events = done.events ∙ most.events ∙ more.events ∙ size ∙ sym (record_count r);
       same = λ x y. (

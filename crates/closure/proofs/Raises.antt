@@ -6,6 +6,7 @@ use denote.Struct.Props.{props}
 use Rattle.std.proofs.lemmas.Bool.{cases_Bool, cases_eq, true≢false, and_parts, or_left, or_right, or_cases, not-true, eq-eqb, ne_eqb}
 use Rattle.sets.specs.Sets.{has, size, Popped}
 use Rattle.sets.specs.Rows.{in_rows, widened}
+use Rattle.saturation.specs.Ties.{from_of}
 use Rattle.saturation.specs.Orders.{Transitive, Within, Closure as Smallest}
 use Rattle.saturation.specs.Laws.{Settled, Closed, Grown, Sources, Readers}
 use Rattle.closure.specs.Closures.{earlier, waits, Idle, Still, Spreads, Joined, Raised, Ready}
@@ -163,7 +164,7 @@ module _ {N W : ℕ} (f : Facts N W) where
   -- an event is settled as long as its successors stay
   pub settled_stays : (R S : ℕ → ℕ → Bool) (w : ℕ) → Within R S → ((y : ℕ) → S w y ≡ R w y) → Settled f R w → Settled f S w
   settled_stays R S w keeps same s = (
-    λ r e h. keeps w (get_or f.from r 0) (s.0 r e (sym (same r) ∙ h)),
+    λ r e h. keeps w (get_or (from_of f.ties) r 0) (s.0 r e (sym (same r) ∙ h)),
     λ q r m k h. keeps r q (s.1 q r m k (sym (same q) ∙ h)),
   )
 
@@ -176,7 +177,7 @@ module _ {N W : ℕ} (f : Facts N W) where
         | inr p ↦ elim (a.tracks w) [
           | inl h ↦ inl (b.waiting w h)
           | inr q ↦ inr (
-            λ r k h. b.keeps w (get_or f.from r 0) (one r k (sym (q r) ∙ sym (p r) ∙ h)),
+            λ r k h. b.keeps w (get_or (from_of f.ties) r 0) (one r k (sym (q r) ∙ sym (p r) ∙ h)),
             λ z r m k h. two z r m k (sym (p z) ∙ h),
           )
         ]

@@ -1,9 +1,11 @@
 -- What a closure has, and what it says of a history. The event x of a closure has the number x + 1 in the history.
 use Rattle.std.specs.Prelude.{◌≡◌, ℕ, suc, ◌<◌, ◌≤◌, Bool, true, false, not, ◌&&◌, ◌||◌, ◌⊎◌, ◌↔◌, List, ◌==◌}
+use Rattle.saturation.specs.Recorded.{history_in}
 use Rattle.order.specs.History.{History, count}
 use Rattle.order.specs.Before.{Before}
 use Rattle.sets.specs.Sets.{has}
 use Rattle.sets.specs.Rows.{in_rows}
+use Rattle.saturation.specs.Ties.{mates_of}
 use Rattle.sets.specs.declared.set.EventSet.{EventSet}
 use Rattle.saturation.specs.Orders.{Transitive, Within, Closure as Smallest}
 use Rattle.saturation.specs.Laws.{Settled, Closed, Grown}
@@ -73,7 +75,7 @@ Fits f c w = (f.count ≡ c.count) × (w < c.count)
 
 -- the events listed are writes of the star of w, and after it
 abbrev pub After : {N W : ℕ} → Facts N W → Closure N W → ℕ → EventSet W → Type 0
-After f c w s = (q : ℕ) → has s q ≡ true → (in_rows f.mates w q ≡ true) × (earlier c w q ≡ true)
+After f c w s = (q : ℕ) → has s q ≡ true → (in_rows (mates_of f.ties) w q ≡ true) × (earlier c w q ≡ true)
 
 -- r is before each of the events listed
 abbrev pub Leads : {N W : ℕ} → ℕ → EventSet W → Closure N W → Type 0
@@ -92,7 +94,7 @@ HasRow x s Q = (y : ℕ) → has s y ≡ true → Q x y ≡ true
 
 -- Q has the pairs that the record gives outright
 abbrev pub HasEvents : {N W : ℕ} → Recorded N W → (ℕ → ℕ → Bool) → Type 0
-HasEvents r Q = (x y : ℕ) → Outright r r.count x y → Q x y ≡ true
+HasEvents r Q = (x y : ℕ) → Outright r (count (history_in r)) x y → Q x y ≡ true
 
 -- Q has the pairs of S, which are by number
 abbrev pub HasPairs : List (ℕ × ℕ) → (ℕ → ℕ → Bool) → Type 0

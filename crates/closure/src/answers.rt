@@ -1,34 +1,28 @@
 //! What the pairs that stand force, and where they clash.
 ghost use Rattle.std.specs.Prelude.{◌≡◌, suc, ◌<◌, true, ◌↔◌, MatchOption};
-ghost use Rattle.order.specs.History.{PairsOfEvents};
+ghost use Rattle.order.specs.History.{count};
 ghost use Rattle.order.specs.Before.{Before, Clash};
 ghost use Rattle.saturation.specs.Recorded.{history_in};
 ghost use Rattle.closure.specs.Closures.{FirstClash};
 
 use crate::reach::Closure;
-use saturation::Recorded;
+use saturation::Stipulated;
 
 /// Whether the event `a` is before the event `b` with these pairs standing.
 pub fn forced<const N: usize, const W: usize>(
-    case: &Recorded<N, W>,
-    pairs: &[(u16, u16)],
+    given: Stipulated<'_, N, W>,
     a: usize,
     b: usize,
 ) -> bool
-    requires inside { PairsOfEvents (history_in case.now) pairs.now }
-    requires numbers { (a < case.now.count) × (b < case.now.count) }
-    ensures { (result ≡ true) ↔ Before (history_in case.now) pairs.now (suc a) (suc b) }
+    requires { (a < count (history_in given.record.now)) × (b < count (history_in given.record.now)) }
+    ensures { (result ≡ true) ↔ Before (history_in given.entry.record.now) given.entry.pairs.now (suc a) (suc b) }
 {
-    Closure::of(case, pairs).precedes(a, b)
+    Closure::of(given).precedes(a, b)
 }
 
 /// The lowest event that is before itself with these pairs standing, if there is one.
-pub fn clash<const N: usize, const W: usize>(
-    case: &Recorded<N, W>,
-    pairs: &[(u16, u16)],
-) -> Option<usize>
-    requires { PairsOfEvents (history_in case.now) pairs.now }
-    ensures { MatchOption result (Clash (history_in case.now) pairs.now → ⊥) (λ x. FirstClash (history_in case.now) pairs.now (suc x)) }
+pub fn clash<const N: usize, const W: usize>(given: Stipulated<'_, N, W>) -> Option<usize>
+    ensures { MatchOption result (Clash (history_in given.entry.record.now) given.entry.pairs.now → ⊥) (λ x. FirstClash (history_in given.entry.record.now) given.entry.pairs.now (suc x)) }
 {
-    Closure::of(case, pairs).lowest_clash()
+    Closure::of(given).lowest_clash()
 }

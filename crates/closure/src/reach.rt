@@ -11,6 +11,8 @@ mod closing;
 mod filling;
 mod link;
 
+// The rules stand here and in `Relation` of `saturation`: that one stops at a cycle, keeps a trail and promises a strict
+// order, and this one goes on and may have an event before itself. A trait for both would owe each promise twice.
 /// A relation of the events below `count` that is closed under chains, and may have an event before itself; and the
 /// events whose successors have changed since they were looked at.
 #[derive(Drop)]

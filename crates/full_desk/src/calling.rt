@@ -1,27 +1,38 @@
-//! Calls on the case, and the printed answers.
+//! The answers to lines about a case.
 
-use crate::script::{Call, Preferred};
-use history::{ByNumber, BySession, ByStar};
-use referee::{Case, Refusal, Verdict};
+use crate::line::{Line, Preferred, Ruling};
+use history::{ByNumber, BySession, ByStar, Lag, Source, Star, Strict};
+use referee::{Case, Refusal};
+use scripts::{Shelf, Trouble};
 
-/// Makes a call on the case, and prints the answer.
-pub(crate) fn make(rt: &HostRuntime, case: &mut Case, call: Call) -> anyhow::Result<()> {
-    match call {
-        Call::Stipulate(first, second) => match case.stipulate(first, second) {
+/// Does what a line says, and prints the answer.
+pub(crate) fn answer(
+    rt: &HostRuntime,
+    shelf: &mut Shelf,
+    case: &mut Case,
+    line: Line<'_>,
+) -> Result<(), Trouble> {
+    match line {
+        Line::Sources(line) => shelf.answer(rt, line)?,
+        Line::Open(ruling, pile) => open(rt, case, &shelf.pile(pile), ruling)?,
+        Line::Stipulate(first, second) => match case.stipulate(first, second) {
             Ok(()) => println!(rt; "ok")?,
             Err(refusal) => refused(rt, refusal)?,
         },
-        Call::Lift => match case.lift() {
+        Line::Lift => match case.lift() {
             Ok((first, second)) => println!(rt; "ok {first} {second}")?,
             Err(refusal) => refused(rt, refusal)?,
         },
-        Call::Judge(budget) => judge(rt, case, budget)?,
-        Call::Show(preference, length) => show(rt, case, preference, length)?,
-        Call::Forced(a, b) => match case.forced(a, b) {
+        Line::Judge(budget) => match case.judge(budget) {
+            Ok(found) => println!(rt; "ok {} {}", found.verdict, found.steps)?,
+            Err(refusal) => refused(rt, refusal)?,
+        },
+        Line::Show(preferred, length) => show(rt, case, preferred, length)?,
+        Line::Forced(a, b) => match case.forced(a, b) {
             Ok(forced) => println!(rt; "ok {forced}")?,
             Err(refusal) => refused(rt, refusal)?,
         },
-        Call::Clash => match case.clash() {
+        Line::Clash => match case.clash() {
             Ok(Some(number)) => println!(rt; "ok {number}")?,
             Ok(None) => println!(rt; "ok absent")?,
             Err(refusal) => refused(rt, refusal)?,
@@ -30,45 +41,45 @@ pub(crate) fn make(rt: &HostRuntime, case: &mut Case, call: Call) -> anyhow::Res
     Ok(())
 }
 
-fn refused(rt: &HostRuntime, refusal: Refusal) -> anyhow::Result<()> {
-    let number = refusal.number();
-    println!(rt; "refused {number}")?;
+fn refused(rt: &HostRuntime, refusal: Refusal) -> Result<(), Trouble> {
+    println!(rt; "refused {}", refusal.number())?;
     Ok(())
 }
 
-/// Judges the case, and prints the verdict and the steps.
-fn judge(rt: &HostRuntime, case: &mut Case, budget: u32) -> anyhow::Result<()> {
-    match case.judge(budget) {
-        Ok(found) => {
-            let verdict = match found.verdict {
-                Verdict::Serial => "serial",
-                Verdict::None => "none",
-                Verdict::Spent => "spent",
-            };
-            let steps = found.steps;
-            println!(rt; "ok {verdict} {steps}")?;
-            Ok(())
-        }
-        Err(refusal) => refused(rt, refusal),
+/// Opens the case with a source and a rule, and prints that, or the fault.
+fn open<S: Source>(
+    rt: &HostRuntime,
+    case: &mut Case,
+    source: &S,
+    ruling: Ruling,
+) -> Result<(), Trouble> {
+    // One arm each: a rule is a type.
+    let opened = match ruling {
+        Ruling::Strict => case.open(source, &Strict),
+        Ruling::Star => case.open(source, &Star),
+        Ruling::Lag => case.open(source, &Lag),
+    };
+    match opened {
+        Ok(()) => println!(rt; "ok")?,
+        Err(fault) => println!(rt; "refused {} place {}", fault.number(), fault.place())?,
     }
+    Ok(())
 }
 
 /// Shows an order in a buffer of a length, filled with 7, and prints the buffer after.
-fn show(rt: &HostRuntime, case: &Case, preference: Preferred, length: usize) -> anyhow::Result<()> {
+fn show(rt: &HostRuntime, case: &Case, preferred: Preferred, length: usize) -> Result<(), Trouble> {
     let mut buffer: Vec<u16> = vec![in rt.alloc(); 7; length]?;
-    let answer = match preference {
+    // One arm each: a preference is a type.
+    let answer = match preferred {
         Preferred::ByNumber => case.show(&ByNumber, &mut buffer),
         Preferred::ByStar => case.show(&ByStar, &mut buffer),
         Preferred::BySession => case.show(&BySession, &mut buffer),
     };
     match answer {
         Ok(count) => print!(rt; "ok {count} :")?,
-        Err(refusal) => {
-            let number = refusal.number();
-            print!(rt; "refused {number} :")?
-        }
+        Err(refusal) => print!(rt; "refused {} :", refusal.number())?,
     }
-    for number in buffer.as_slice() {
+    for number in &buffer {
         print!(rt; " {number}")?;
     }
     println!(rt; "")?;

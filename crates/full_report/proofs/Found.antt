@@ -2,7 +2,7 @@
 use Rattle.std.proofs.Common.{◌≡◌, ℕ, ◌^◌, ◌<◌, ◌≤◌, List, [], length, Ok, codes, refl, subst, arith}
 use Rattle.packed.specs.declared.header.Header.{Header}
 use Rattle.packed.specs.Reading.{checked}
-use Rattle.packed.proofs.Meant.{meant_count}
+use Rattle.packed.proofs.Meant.{accepted_count}
 use Rattle.packed.proofs.Sound.{sound}
 use Rattle.order.specs.Orders.{Order}
 use Rattle.order.specs.Calls.{Shows}
@@ -35,6 +35,6 @@ found_fits bs f hs ht t = by f.header f.judgement.steps hs ht f.judgement.verdic
     by : (h : Header) (steps : ℕ) → h.season < 2 ^ 16 → steps < 2 ^ 32 → (v : Verdict) → checked bs ≡ Ok h → (v ≡ Serial → Shows (history_in bs) [] lower (order_in f)) →
         length (text_by h steps (order_in f) v) ≤ 1024
     by h steps hs ht Serial is s =
-        serial_text_fits h.season h.count steps (order_in f) hs ht (few bs h is) (subst (λ n. Order n (order_in f)) (meant_count bs h is) (s refl).fits.order)
-    by h steps hs ht None is s = omega (arith, judged_text_short h.season h.count (codes "none") steps hs (omega (arith, few bs h is)) ht (omega arith))
-    by h steps hs ht Spent is s = omega (arith, judged_text_short h.season h.count (codes "spent") steps hs (omega (arith, few bs h is)) ht (omega arith))
+        serial_text_fits h steps (order_in f) hs ht (few bs h is) (subst (λ n. Order n (order_in f)) (accepted_count bs h is) (s refl).fits.order)
+    by h steps hs ht None is s = omega (arith, judged_text_short h (codes "none") steps hs (omega (arith, few bs h is)) ht (omega arith))
+    by h steps hs ht Spent is s = omega (arith, judged_text_short h (codes "spent") steps hs (omega (arith, few bs h is)) ht (omega arith))

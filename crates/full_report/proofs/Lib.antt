@@ -1,4 +1,3 @@
-pub mod Pastes
 pub mod Sizes
 pub mod Found
 pub mod Finds

@@ -16,7 +16,8 @@ use Rattle.order.proofs.Success.{placing_is_best_lem}
 use Rattle.opening.specs.Faults.{fault_number, fault_place}
 use Rattle.full_report.specs.declared.fault.Fault.{Fault}
 use Rattle.full_report.specs.declared.fault.Fault.TheVariants.{File, History as Refused}
-use Rattle.full_report.specs.Text.{pair_line, judged_text, serial_text}
+use Rattle.text.specs.Lines.{pair_line}
+use Rattle.full_report.specs.Text.{judged_text, serial_text}
 use Rattle.full_report.specs.Reports.{fault_line, FaultIn, JudgedAs, history_in, lower, ReportOf, OneReport}
 
 -- Bytes are refused or not.
@@ -64,10 +65,10 @@ module _ (bs : List ℕ) {h k : Header} {v w : Verdict} {s t : ℕ} (a : JudgedA
   same_steps = let d = judge_is_decided_lem (history_in bs) [] 1000000 (well bs) (fine bs a) (no_pairs (history_in bs)) in
       (d.3 v s a.judges).1 ∙ sym (d.3 w t b.judges).1
 
-  same_text : (word : List ℕ) → judged_text h.season h.count word s ≡ judged_text k.season k.count word t
-  same_text word = ap₂ (λ (h : Header) (n : ℕ). judged_text h.season h.count word n) same_header same_steps
+  same_text : (word : List ℕ) → judged_text h word s ≡ judged_text k word t
+  same_text word = ap₂ (λ h n. judged_text h word n) same_header same_steps
 
-  same_serial : {σ τ : List ℕ} → σ ≡ τ → serial_text h.season h.count s σ ≡ serial_text k.season k.count t τ
+  same_serial : {σ τ : List ℕ} → σ ≡ τ → serial_text h s σ ≡ serial_text k t τ
   same_serial e = let x = same_header in let y = same_steps in cc
 
 -- One order is shown.

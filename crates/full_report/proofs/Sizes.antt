@@ -5,40 +5,24 @@ use Rattle.std.proofs.lemmas.Fmt.{length-decimal-le}
 use Rattle.std.proofs.lemmas.Bool.{cases_lt, lt-ltb, le-ltb}
 use Rattle.order.specs.Orders.{times, Order}
 use Rattle.order.proofs.Places.{times_here, times_there}
-use Rattle.full_report.specs.Text.{pair_line, verdict_line, numbers_text, order_line, judged_text, serial_text}
-
-length_pair_line : (f : List ℕ) (m : ℕ) (s : List ℕ) (n : ℕ) → length (pair_line f m s n) ≡ length f + length (decimal m) + length s + length (decimal n) + 1
-length_pair_line f m s n = simp length-append (omega arith)
-
-length_verdict_line : (word : List ℕ) (steps : ℕ) → length (verdict_line word steps) ≡ length word + length (decimal steps) + 16
-length_verdict_line word steps = simp length-append (omega arith)
+use Rattle.packed.specs.declared.header.Header.{Header}
+use Rattle.text.specs.Lines.{number_line}
+use Rattle.text.proofs.Sizes.{number_line_short, pair_line_short}
+use Rattle.report.specs.Reports.{header_line}
+use Rattle.full_report.specs.Text.{verdict_line, numbers_text, order_line, judged_text, serial_text}
 
 length_order_line : (σ : List ℕ) → length (order_line σ) ≡ length (numbers_text σ) + 6
 length_order_line σ = simp length-append (omega arith)
 
--- Numbers of 64 bits have at most 20 digits
-digits_64 : (n : ℕ) → n < 2 ^ 64 → length (decimal n) ≤ 20
-digits_64 n h = length-decimal-le 20 n (omega arith) (omega arith) h
-
-pub pair_line_short : (f : List ℕ) (m : ℕ) (s : List ℕ) (n : ℕ) → m < 2 ^ 64 → n < 2 ^ 64 → length (pair_line f m s n) ≤ length f + length s + 41
-pair_line_short f m s n hm hn =
-    let l = length_pair_line f m s n in
-    let a = digits_64 m hm in
-    let b = digits_64 n hn in
-    omega arith
-
-pub verdict_line_short : (word : List ℕ) (steps : ℕ) → steps < 2 ^ 64 → length (verdict_line word steps) ≤ length word + 36
-verdict_line_short word steps h =
-    let l = length_verdict_line word steps in
-    let a = digits_64 steps h in
-    omega arith
+verdict_line_short : (word : List ℕ) (steps : ℕ) → steps < 2 ^ 64 → length (verdict_line word steps) ≤ length word + 36
+verdict_line_short word steps h = omega (arith, length-append word (number_line (codes " steps ") steps), number_line_short (codes " steps ") steps h)
 
 -- The first two lines take at most 98 bytes, whatever the numbers.
-pub judged_text_short : (season count : ℕ) (word : List ℕ) (steps : ℕ) → season < 2 ^ 16 → count < 2 ^ 16 → steps < 2 ^ 32 → length word ≤ 6
-    → length (judged_text season count word steps) ≤ 98
-judged_text_short season count word steps hs hc ht hw =
-    let l = length-append (pair_line (codes "season ") season (codes " events ") count) (verdict_line word steps) in
-    let a = pair_line_short (codes "season ") season (codes " events ") count (omega arith) (omega arith) in
+pub judged_text_short : (h : Header) (word : List ℕ) (steps : ℕ) → h.season < 2 ^ 16 → h.count < 2 ^ 16 → steps < 2 ^ 32 → length word ≤ 6
+    → length (judged_text h word steps) ≤ 98
+judged_text_short h word steps hs hc ht hw =
+    let l = length-append (header_line h) (verdict_line word steps) in
+    let a = pair_line_short (codes "season ") h.season (codes " events ") h.count (omega arith) (omega arith) in
     let b = verdict_line_short word steps (omega arith) in
     omega arith
 
@@ -99,9 +83,9 @@ order_line_fits n σ few o =
     ]
 
 -- The whole report on a serial history of at most 256 events fits 1,024 bytes.
-pub serial_text_fits : (season count steps : ℕ) (σ : List ℕ) → season < 2 ^ 16 → steps < 2 ^ 32 → count ≤ 256 → Order count σ → length (serial_text season count steps σ) ≤ 1024
-serial_text_fits season count steps σ hs ht few o =
-    let l = length-append (judged_text season count (codes "serial") steps) (order_line σ) in
-    let a = judged_text_short season count (codes "serial") steps hs (omega arith) ht (omega arith) in
-    let b = order_line_fits count σ few o in
+pub serial_text_fits : (h : Header) (steps : ℕ) (σ : List ℕ) → h.season < 2 ^ 16 → steps < 2 ^ 32 → h.count ≤ 256 → Order h.count σ → length (serial_text h steps σ) ≤ 1024
+serial_text_fits h steps σ hs ht few o =
+    let l = length-append (judged_text h (codes "serial") steps) (order_line σ) in
+    let a = judged_text_short h (codes "serial") steps hs (omega arith) ht (omega arith) in
+    let b = order_line_fits h.count σ few o in
     omega arith

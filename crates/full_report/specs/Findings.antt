@@ -26,9 +26,9 @@ FoundIn bs (Err f) = FaultIn bs f
 
 -- The report's text by the verdict.
 abbrev pub text_by : Header → ℕ → List ℕ → Verdict → List ℕ
-text_by h steps σ Serial = serial_text h.season h.count steps σ
-text_by h steps σ None = judged_text h.season h.count (codes "none") steps
-text_by h steps σ Spent = judged_text h.season h.count (codes "spent") steps
+text_by h steps σ Serial = serial_text h steps σ
+text_by h steps σ None = judged_text h (codes "none") steps
+text_by h steps σ Spent = judged_text h (codes "spent") steps
 
 -- The text of findings.
 abbrev pub found_text : Findings → List ℕ

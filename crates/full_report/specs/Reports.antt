@@ -13,9 +13,9 @@ use Rattle.order.specs.Calls as order
 use Rattle.opening.specs.Faults as opened
 use Rattle.full_report.specs.declared.fault.Fault.{Fault}
 use Rattle.full_report.specs.declared.fault.Fault.TheVariants.{File, History as Refused}
-use Rattle.full_report.specs.declared.printing.ReportRefusal.{ReportRefusal}
-use Rattle.full_report.specs.declared.printing.ReportRefusal.TheVariants.{ShortBuffer}
-use Rattle.full_report.specs.Text.{pair_line, judged_text, serial_text}
+use Rattle.text.specs.Lines.{pair_line}
+use Rattle.report.specs.declared.printing.ReportRefusal.{ReportRefusal}
+use Rattle.full_report.specs.Text.{judged_text, serial_text}
 
 -- The line that tells of a fault: its layer, its number and its place.
 abbrev pub fault_line : Fault → List ℕ
@@ -46,11 +46,11 @@ pub data ReportOf (bs : List ℕ) : List ℕ → Type 0 where
   -- a fault has one line
   faulty : (f : Fault) → FaultIn bs f → ReportOf bs (fault_line f)
   -- a verdict without an order has two
-  none : {h : Header} {steps : ℕ} → JudgedAs bs h order.none steps → ReportOf bs (judged_text h.season h.count (codes "none") steps)
-  spent : {h : Header} {steps : ℕ} → JudgedAs bs h order.spent steps → ReportOf bs (judged_text h.season h.count (codes "spent") steps)
+  none : {h : Header} {steps : ℕ} → JudgedAs bs h order.none steps → ReportOf bs (judged_text h (codes "none") steps)
+  spent : {h : Header} {steps : ℕ} → JudgedAs bs h order.spent steps → ReportOf bs (judged_text h (codes "spent") steps)
   -- and the verdict serial has three: the third is the order that show shows
   serial : {h : Header} {steps : ℕ} {σ : List ℕ} → JudgedAs bs h order.serial steps → Shows (history_in bs) [] lower σ →
-      ReportOf bs (serial_text h.season h.count steps σ)
+      ReportOf bs (serial_text h steps σ)
 
 -- There is no other report on the same bytes.
 abbrev pub OneReport : Type 0
@@ -61,7 +61,3 @@ OneReport = (bs text other : List ℕ) → ReportOf bs text → ReportOf bs othe
 abbrev pub Reports : List ℕ → List ℕ → List ℕ → Result ℕ ReportRefusal → Type 0
 Reports bs before after (Ok used) = (1024 ≤ length before) × (text : List ℕ) × ReportOf bs text × (used ≡ length text) × (after ≡ text ++ drop used before)
 Reports bs before after (Err e) = (length before < 1024) × (after ≡ before)
-
--- The number of the refusal.
-abbrev pub refusal_number : ReportRefusal → ℕ
-refusal_number ShortBuffer = 41

@@ -1,11 +1,10 @@
-ghost use Rattle.std.specs.Prelude.{◌≡◌, ◌≤◌, length};
+ghost use Rattle.std.specs.Prelude.{◌≡◌};
 ghost use Rattle.full_report.specs.declared.fault.Fault.TheVariants.{File, History};
 ghost use Rattle.full_report.specs.Reports.{fault_line};
-ghost use Rattle.full_report.specs.Text.{Put};
 
-use crate::lines::put_pair_line;
 use opening::HistoryFault;
 use packed::FileFault;
+use text::{Text, pair_line};
 
 /// A fault of a layer below, carried whole: its layer, its number and its place.
 #[derive(Clone, Copy)]
@@ -32,28 +31,19 @@ impl From<HistoryFault> for Fault {
     }
 }
 
-/// Puts the line that tells of a fault at the front of a buffer.
-pub(crate) fn put_fault(buffer: &mut [u8], fault: Fault) -> usize
-    requires { 1024 ≤ length buffer.old }
-    ensures put { Put buffer.old buffer.new 0 result (fault_line fault) }
-    ensures room { result ≤ 1024 }
+/// The line that tells of a fault.
+pub(crate) fn fault_line(fault: Fault) -> Text
+    ensures { result.bytes ≡ fault_line fault }
 {
     match fault {
-        Fault::File(f) => put_pair_line(
-            buffer,
-            0,
-            b"fault file ",
-            f.number() as u64,
-            b" place ",
-            f.place() as u64,
-        ),
-        Fault::History(h) => put_pair_line(
-            buffer,
-            0,
-            b"fault history ",
-            h.number() as u64,
-            b" place ",
-            h.place() as u64,
-        ),
+        Fault::File(f) => report::fault_line(f.into()),
+        Fault::History(h) => {
+            pair_line(
+                "fault history ",
+                h.number().into(),
+                " place ",
+                h.place().into(),
+            )
+        }
     }
 }

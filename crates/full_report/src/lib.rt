@@ -7,10 +7,10 @@ mod findings;
 mod judged;
 mod lines;
 mod printing;
-mod text;
 
 pub use fault::Fault;
-pub use printing::{ReportRefusal, report, there_is_one_report};
+pub use printing::{report, there_is_one_report};
+pub use report::ReportRefusal;
 
 #[cfg(test)]
 mod tests;

@@ -1,25 +1,19 @@
 ghost use Rattle.std.specs.Prelude.{◌≡◌, ◌≤◌, IfOk};
-ghost use Rattle.full_report.specs.Reports.{OneReport, Reports, refusal_number};
+ghost use Rattle.full_report.specs.Reports.{OneReport, ReportOf, Reports};
 
-use crate::fault::put_fault;
+use crate::fault::fault_line;
 use crate::findings::judge;
-use crate::judged::put_findings;
+use crate::judged::found_text;
+use report::ReportRefusal;
+use text::{Text, copy_to_front};
 
-/// Why no report is written.
-#[derive(Clone, Copy, PartialEq, Eq, Debug)]
-pub enum ReportRefusal {
-    /// The buffer has fewer than 1,024 bytes.
-    ShortBuffer,
-}
-
-impl ReportRefusal {
-    /// The refusal's number, 41.
-    pub fn number(self) -> u8
-        ensures { result ≡ refusal_number self }
-    {
-        match self {
-            ReportRefusal::ShortBuffer => 41,
-        }
+/// The report on packed bytes.
+fn report_text(bytes: &[u8]) -> Text
+    ensures { ReportOf bytes.now result.bytes }
+{
+    match judge(bytes) {
+        Ok(found) => found_text(&found),
+        Err(fault) => fault_line(fault),
     }
 }
 
@@ -35,10 +29,7 @@ pub fn report(bytes: &[u8], buffer: &mut [u8]) -> Result<usize, ReportRefusal>
     if buffer.len() < 1024 {
         return Err(ReportRefusal::ShortBuffer);
     }
-    match judge(bytes) {
-        Ok(found) => Ok(put_findings(buffer, &found)),
-        Err(fault) => Ok(put_fault(buffer, fault)),
-    }
+    Ok(copy_to_front(&report_text(bytes), buffer))
 }
 
 /// There is one report on given bytes.

@@ -2,6 +2,7 @@ use crate::*;
 use std::process::Abort;
 use std::test::Fail;
 
+// As in the tests of `report`: a test can lend nothing to another crate.
 /// The front of the buffer is the text, and the rest stays.
 fn check_text(rt: &impl Abort, bytes: &[u8], text: &[u8]) -> Result<(), Fail> {
     let mut buffer = [7; 1024];

@@ -1,10 +1,9 @@
 -- The event with a number, by places of the list and through the layers. Assumes nothing.
-use Rattle.std.proofs.Common.{◌≡◌, ℕ, zero, suc, ◌+◌, ◌-◌, ◌<◌, ◌≤◌, Bool, true, false, cond, List, [], ◌∷◌, ◌++◌, map, length, get_or, take, drop, Some, None, filter, Option, sym, refl, ap, ◌∙◌, add-one, arith, take-append-drop, Bor}
+use Rattle.std.proofs.Common.{◌≡◌, ℕ, zero, suc, ◌+◌, ◌-◌, ◌<◌, ◌≤◌, List, [], ◌∷◌, ◌++◌, map, length, get_or, take, drop, Some, None, Option, sym, refl, ap, ◌∙◌, add-one, arith, Bor, ⊎_elim}
 use Rattle.std.specs.List.{slice_get}
-use Rattle.std.proofs.lemmas.List.{length_push}
-use Rattle.std.proofs.lemmas.List.Elements.{filter-append, filter_more}
-use Rattle.std.proofs.lemmas.List.Filters.{length-filter_more}
-use Rattle.std.proofs.lemmas.Option.{slice_get-get_or, slice_get_past}
+use Rattle.std.proofs.lemmas.List.{drop_more, drop_all}
+use Rattle.std.proofs.lemmas.Bool.{cases_lt}
+use Rattle.std.proofs.lemmas.Option.{slice_get-get_or, slice_get-map, slice_get_past, slice_get_within, get_or_from_slice_get}
 use Rattle.std.specs.Option.{option_map}
 use Rattle.std.specs.Slice.{IsGetResult}
 use Rattle.history.specs.declared.event.Event.{Event}
@@ -20,16 +19,6 @@ nth_right [] ys k h = let e : k - 0 ≡ k = omega arith in rw e
 nth_right (x ∷ xs) ys zero h = absurd (omega arith)
 nth_right (x ∷ xs) ys (suc k) h = let e : suc k - suc (length xs) ≡ k - length xs = omega arith in rw e (nth_right xs ys k (omega arith))
 
-nth_map_some : (f : Event → Event) (xs : List Event) (k : ℕ) (e : Event) → slice_get xs k ≡ Some e → slice_get (map f xs) k ≡ Some (f e)
-nth_map_some f [] k e h = absurd (let z : ◌≡◌ {A = ℕ} 0 1 = cc in omega arith)
-nth_map_some f (x ∷ xs) zero e h = let s : x ≡ e = cc in rw s
-nth_map_some f (x ∷ xs) (suc k) e h = nth_map_some f xs k e h
-
-nth_map_none : (f : Event → Event) (xs : List Event) (k : ℕ) → slice_get xs k ≡ None → slice_get (map f xs) k ≡ None
-nth_map_none f [] k h = refl
-nth_map_none f (x ∷ xs) zero h = absurd (let z : ◌≡◌ {A = ℕ} 0 1 = cc in omega arith)
-nth_map_none f (x ∷ xs) (suc k) h = nth_map_none f xs k h
-
 pub numbered_nth : (es : List Event) (n : ℕ) → 0 < n → numbered es n ≡ slice_get es (n - 1)
 numbered_nth es zero h = absurd (omega arith)
 numbered_nth es (suc k) h = let e : suc k - 1 ≡ k = omega arith in rw e
@@ -40,13 +29,9 @@ numbered_in es n d pos le = numbered_nth es n pos ∙ slice_get-get_or es (n - 1
 pub numbered_past : (es : List Event) (n : ℕ) → length es < n → numbered es n ≡ None
 numbered_past es n h = numbered_nth es n (omega arith) ∙ slice_get_past es (n - 1) (omega arith)
 
-pub numbered_map_some : (f : Event → Event) (es : List Event) (n : ℕ) (e : Event) → numbered es n ≡ Some e → numbered (map f es) n ≡ Some (f e)
-numbered_map_some f es zero e h = absurd (let z : ◌≡◌ {A = ℕ} 0 1 = cc in omega arith)
-numbered_map_some f es (suc k) e h = nth_map_some f es k e h
-
-pub numbered_map_none : (f : Event → Event) (es : List Event) (n : ℕ) → numbered es n ≡ None → numbered (map f es) n ≡ None
-numbered_map_none f es zero h = refl
-numbered_map_none f es (suc k) h = nth_map_none f es k h
+pub numbered_map : (f : Event → Event) (es : List Event) (n : ℕ) → numbered (map f es) n ≡ option_map f (numbered es n)
+numbered_map f es zero = refl
+numbered_map f es (suc k) = slice_get-map f es k
 
 pub numbered_left : (xs ys : List Event) (n : ℕ) → n ≤ length xs → numbered (xs ++ ys) n ≡ numbered xs n
 numbered_left xs ys zero h = refl
@@ -70,47 +55,36 @@ numbered_take m es (suc k) h = nth_take m es k (omega arith)
 
 -- what has the number i + 1 stands at place i
 pub numbered_at : (es : List Event) (i : ℕ) (e : Event) → numbered es (i + 1) ≡ Some e → (i < length es) × (e ≡ get_or es i e)
-numbered_at es i e h = at es i e (rw add-one at h)
-  where
-    at : (es : List Event) (i : ℕ) (e : Event) → slice_get es i ≡ Some e → (i < length es) × (e ≡ get_or es i e)
-    at [] i e h = absurd (let z : ◌≡◌ {A = ℕ} 0 1 = cc in omega arith)
-    at (x ∷ xs) zero e h = (omega arith, cc)
-    at (x ∷ xs) (suc i) e h = let r = at xs i e h in (omega arith, r.1)
-
-module _ (p : Event → Bool) (es : List Event) (i : ℕ) (e : Event) (at : numbered es (i + 1) ≡ Some e) where
-  lt : i < length es
-  lt = (numbered_at es i e at).0
-
-  passed : (b : Bool) → p e ≡ b → length (filter p (take (i + 1) es)) ≡ length (filter p (take i es)) + cond b 1 0
-  passed b is = length-filter_more p es i e lt ∙ ap (λ v. length (filter p (take i es)) + cond v 1 0) (ap p (sym (numbered_at es i e at).1) ∙ is)
-
-  pub kept_more_yes : p e ≡ true → length (filter p (take (i + 1) es)) ≡ length (filter p (take i es)) + 1
-  kept_more_yes is = passed true is
-
-  pub kept_more_no : p e ≡ false → length (filter p (take (i + 1) es)) ≡ length (filter p (take i es))
-  kept_more_no is = omega (arith, passed false is)
-
-  -- what passes at place i has the next number of all that pass
-  pub numbered_kept : (n : ℕ) → p e ≡ true → n ≡ length (filter p (take i es)) + 1 → numbered (filter p es) n ≡ Some e
-  numbered_kept n passes is =
-      let front = filter p (take i es) in
-      let read : get_or es i e ≡ e = sym (numbered_at es i e at).1 in
-      let yes : p (get_or es i e) ≡ true = ap p read ∙ passes in
-      let more : filter p (take (i + 1) es) ≡ front ++ (e ∷ []) =
-      filter_more p es i e lt ∙ ap (λ b. front ++ cond b (get_or es i e ∷ []) []) yes ∙ ap (λ y. front ++ (y ∷ [])) read in
-      let whole : filter p es ≡ (front ++ (e ∷ [])) ++ filter p (drop (i + 1) es) =
-      ap (filter p) (sym (take-append-drop (i + 1) es)) ∙ filter-append p (take (i + 1) es) (drop (i + 1) es) ∙ ap (λ l. l ++ filter p (drop (i + 1) es)) more in
-      let one : n - length front ≡ 1 = omega arith in
-      ap (λ l. numbered l n) whole
-      ∙ numbered_left (front ++ (e ∷ [])) (filter p (drop (i + 1) es)) n (simp length_push (omega arith))
-      ∙ numbered_right front (e ∷ []) n (omega arith)
-      ∙ ap (numbered (e ∷ [])) one
+numbered_at es i e h =
+    let at : slice_get es i ≡ Some e = rw add-one at h in
+    (slice_get_within es i e at, sym (get_or_from_slice_get es i e e at))
 
 -- up to the length there is one
 pub numbered_there : (es : List Event) (n : ℕ) → 0 < n → n ≤ length es → numbered es n ≡ None → ⊥
 numbered_there es n pos le none =
     let some = numbered_in es n (record { kind = 0; session = 0; star = 0; revision = 0 }) pos le in
     let z : ◌≡◌ {A = ℕ} 0 1 = cc in omega arith
+
+-- what is left from a place on, by what the next number has
+pub drop_some : (es : List Event) (i n : ℕ) (e : Event) → n ≡ i + 1 → numbered es n ≡ Some e → drop i es ≡ e ∷ drop n es
+drop_some es i n e is at =
+    let here = numbered_at es i e (ap (numbered es) (sym is) ∙ at) in
+    drop_more es i e here.0 ∙ ap (λ x. x ∷ drop (i + 1) es) (sym here.1) ∙ ap (λ k. e ∷ drop k es) (sym is)
+
+pub drop_none : (es : List Event) (i n : ℕ) → n ≡ i + 1 → numbered es n ≡ None → drop i es ≡ []
+drop_none es i n is none = ⊎_elim
+    (λ lt. absurd (numbered_there es n (omega arith) (omega arith) none))
+    (λ le. drop_all i es le) (cases_lt i (length es))
+
+-- what stands first of what is left has the next number
+pub numbered_next : (es : List Event) (i : ℕ) (e : Event) (rest : List Event) → drop i es ≡ e ∷ rest → (numbered es (i + 1) ≡ Some e) × (drop (i + 1) es ≡ rest)
+numbered_next es i e rest h = rw add-one (at es i h)
+  where
+    at : (es : List Event) (i : ℕ) → drop i es ≡ e ∷ rest → (slice_get es i ≡ Some e) × (drop (suc i) es ≡ rest)
+    at [] zero h = absurd (let z : ◌≡◌ {A = ℕ} 0 1 = cc in omega arith)
+    at [] (suc i) h = absurd (let z : ◌≡◌ {A = ℕ} 0 1 = cc in omega arith)
+    at (x ∷ xs) zero h = (cc, cc)
+    at (x ∷ xs) (suc i) h = at xs i h
 
 -- what `get` finds at a place is what stands there
 pub item_nth : (es : List Event) (i : ℕ) (r : Option (Bor Event)) → IsGetResult es i i r → option_map (λ x. x.now) r ≡ slice_get es i

@@ -3,9 +3,9 @@ use Rattle.std.specs.Prelude.{◌≤◌, Bool, true, false, cond, List, [], ◌�
 use Rattle.std.proofs.Common.{arith, length-take}
 use Rattle.std.proofs.lemmas.List.{length-map}
 use Rattle.history.specs.declared.event.Event.{Event}
-use Rattle.history.specs.declared.either.Either.{Either}
-use Rattle.history.specs.declared.either.Either.TheVariants.{One, Other}
-use Rattle.history.specs.Either.{either}
+use Rattle.either.specs.declared.Either.{Either}
+use Rattle.either.specs.declared.Either.TheVariants.{Left, Right}
+use Rattle.either.specs.Either.{either}
 
 pub few_take : (es : List Event) → length (take 65535 es) ≤ 65535
 few_take es = simp length-take (omega arith)
@@ -24,5 +24,5 @@ few_kept p es h = omega (arith, kept_most p es)
 
 pub few_either : {P Q : Type 0} (f : P → List Event) (g : Q → List Event)
     → ((p : P) → length (f p) ≤ 65535) → ((q : Q) → length (g q) ≤ 65535) → (e : Either P Q) → length (either f g e) ≤ 65535
-few_either f g a b (One p) = a p
-few_either f g a b (Other q) = b q
+few_either f g a b (Left p) = a p
+few_either f g a b (Right q) = b q

@@ -3,9 +3,9 @@ use Rattle.std.specs.Prelude.{◌≡◌, ℕ, ◌<◌, Bool, true, cond, not, �
 use Rattle.std.proofs.Common.{sym, ap, ◌∙◌, inl, inr, ⊎_elim, arith, lt-ltb, le-ltb, ltb-true, eq-eqb, ne_eqb}
 use Rattle.std.proofs.lemmas.Bool.{cases_order, cases_eq}
 use Rattle.history.specs.declared.event.Event.{Event}
-use Rattle.history.specs.declared.either.Either.{Either}
-use Rattle.history.specs.declared.either.Either.TheVariants.{One, Other}
-use Rattle.history.specs.Either.{either}
+use Rattle.either.specs.declared.Either.{Either}
+use Rattle.either.specs.declared.Either.TheVariants.{Left, Right}
+use Rattle.either.specs.Either.{either}
 use Rattle.history.specs.Preferences.{Lawful, by_number, by_key, by_star, by_session}
 
 -- of two different numbers exactly one is the lower
@@ -72,5 +72,5 @@ by_session_lawful = by_key_lawful (λ e. e.session)
 pub either_lawful : {P Q : Type 0} (f : P → ℕ → Event → ℕ → Event → Bool) (g : Q → ℕ → Event → ℕ → Event → Bool)
     → ((p : P) (es : List Event) → Lawful (f p) es) → ((q : Q) (es : List Event) → Lawful (g q) es)
     → (e : Either P Q) (es : List Event) → Lawful (either f g e) es
-either_lawful f g a b (One p) = a p
-either_lawful f g a b (Other q) = b q
+either_lawful f g a b (Left p) = a p
+either_lawful f g a b (Right q) = b q

@@ -1,10 +1,11 @@
--- What a reader has to believe: Lists, Limits, Layers, Rules, Preferences, Either.
+-- What a reader has to believe: Lists, Events, Limits, Texts, Layers, Rules, Preferences.
 pub mod Lists
+pub mod Events
 pub mod Limits
+pub mod Texts
 pub mod Layers
 pub mod Rules
 pub mod Preferences
-pub mod Either
 -- Facts about them that the traits' members cite; the checker reads these.
 pub mod Few
 pub mod Lawful

@@ -14,8 +14,8 @@ pub struct Pick<S> {
 
 impl<S> Pick<S> {
     /// Whether this layer keeps the event.
-    fn picks(&self, e: Event) -> bool
-        ensures { result ≡ of_star self.now.star e }
+    fn picks(&self, e: &Event) -> bool
+        ensures { result ≡ of_star self.now.star e.now }
     {
         e.star == self.star
     }
@@ -33,30 +33,15 @@ impl<S: Source> Source for Pick<S> {
     }
 
     fn count(&self) -> u16 {
-        let mut seen = 0;
-        for i in 0..self.below.count() {
-            if let Some(e) = self.below.event(i + 1) {
-                if self.picks(e) {
-                    seen += 1;
-                }
-            }
-        }
-        seen
+        self.below.iter().filter(|e| self.picks(e)).count() as u16
     }
 
     fn event(&self, number: u16) -> Option<Event> {
-        let mut seen = 0;
-        for i in 0..self.below.count() {
-            if let Some(e) = self.below.event(i + 1) {
-                if self.picks(e) {
-                    seen += 1;
-                    if seen == number {
-                        return Some(e);
-                    }
-                }
-            }
-        }
-        None
+        let place = number.checked_sub(1)?;
+        self.below
+            .iter()
+            .filter(|e| self.picks(e))
+            .nth(place as usize)
     }
 }
 
@@ -83,10 +68,9 @@ impl<S> Offset<S> {
             e.revision.saturating_add(self.revisions)
         };
         Event {
-            kind: e.kind,
             session,
-            star: e.star,
             revision,
+            ..e
         }
     }
 }
@@ -107,8 +91,7 @@ impl<S: Source> Source for Offset<S> {
     }
 
     fn event(&self, number: u16) -> Option<Event> {
-        let e = self.below.event(number)?;
-        Some(self.shift(e))
+        self.below.event(number).map(|e| self.shift(e))
     }
 }
 

@@ -2,17 +2,18 @@
 
 #![tactic(auto)]
 
-mod either;
 mod event;
+mod events;
 mod layers;
 mod preference;
 mod rule;
 mod source;
 
 pub use either::Either;
-pub use event::{Event, READ, WRITE};
+pub use event::{Access, Event, READ, WRITE};
+pub use events::Events;
 pub use layers::{Join, Offset, Pick};
-pub use preference::{ByNumber, BySession, ByStar, Preference};
+pub use preference::{ByNumber, BySession, ByStar, Candidate, Preference};
 pub use rule::{Lag, Rule, Star, Strict};
 pub use source::{Source, Table};
 

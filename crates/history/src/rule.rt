@@ -1,7 +1,7 @@
 ghost use Rattle.std.specs.Prelude.{◌≡◌, ℕ, Bool};
 ghost use Rattle.history.specs.Rules.{strict, same_star, lag};
 
-use crate::event::{READ, WRITE};
+use crate::event::{Access, READ, WRITE};
 
 /// Which pairs of events of one session have to keep their order.
 ///
@@ -11,8 +11,8 @@ pub trait Rule {
     ghost keeps: { Self → ℕ → ℕ → ℕ → ℕ → Bool };
 
     /// Whether the pair is kept.
-    fn keeps(&self, earlier_kind: u8, earlier_star: u8, later_kind: u8, later_star: u8) -> bool
-        ensures { result ≡ keeps self.now earlier_kind earlier_star later_kind later_star };
+    fn keeps(&self, earlier: Access, later: Access) -> bool
+        ensures { result ≡ keeps self.now earlier.kind earlier.star later.kind later.star };
 }
 
 /// Keeps every pair.
@@ -22,13 +22,7 @@ pub struct Strict;
 impl Rule for Strict {
     ghost keeps = { λ _. strict };
 
-    fn keeps(
-        &self,
-        _earlier_kind: u8,
-        _earlier_star: u8,
-        _later_kind: u8,
-        _later_star: u8,
-    ) -> bool {
+    fn keeps(&self, _earlier: Access, _later: Access) -> bool {
         true
     }
 }
@@ -40,8 +34,8 @@ pub struct Star;
 impl Rule for Star {
     ghost keeps = { λ _. same_star };
 
-    fn keeps(&self, _earlier_kind: u8, earlier_star: u8, _later_kind: u8, later_star: u8) -> bool {
-        earlier_star == later_star
+    fn keeps(&self, earlier: Access, later: Access) -> bool {
+        earlier.star == later.star
     }
 }
 
@@ -52,9 +46,9 @@ pub struct Lag;
 impl Rule for Lag {
     ghost keeps = { λ _. lag };
 
-    fn keeps(&self, earlier_kind: u8, earlier_star: u8, later_kind: u8, later_star: u8) -> bool {
-        match (earlier_kind, later_kind) {
-            (WRITE, READ) if earlier_star != later_star => false,
+    fn keeps(&self, earlier: Access, later: Access) -> bool {
+        match (earlier.kind, later.kind) {
+            (WRITE, READ) => earlier.star == later.star,
             _ => true,
         }
     }

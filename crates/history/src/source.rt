@@ -1,9 +1,13 @@
 ghost use Rattle.std.specs.Prelude.{◌≡◌, ℕ, ◌≤◌, List, length, take};
 ghost use Rattle.history.specs.declared.event.Event.{Event};
 ghost use Rattle.history.specs.Lists.{numbered};
-ghost use Rattle.history.specs.Few.{few_take};
+ghost use Rattle.history.specs.Events.{events_left};
+ghost use Rattle.either.specs.Either.{either};
+ghost use Rattle.history.specs.Few.{few_take, few_either};
 
 use crate::event::Event;
+use crate::events::Events;
+use either::{Either, for_both};
 
 /// A season and a list of at most 65,535 events, numbered from 1, that can be asked for.
 ///
@@ -28,6 +32,18 @@ pub trait Source {
     /// The event with a number; none for 0 and above the count.
     fn event(&self, number: u16) -> Option<Event>
         ensures { result ≡ numbered (events self.now) number };
+
+    /// The events, in their order.
+    final fn iter(&self) -> Events<'_, Self>
+    where
+        Self: Sized,
+        ensures { events_left events result ≡ events self.now }
+    {
+        Events {
+            source: self,
+            given: 0,
+        }
+    }
 }
 
 /// A table of event records with a season; it means its first 65,535 records.
@@ -76,5 +92,26 @@ impl<S: Source> Source for &S {
 
     fn event(&self, number: u16) -> Option<Event> {
         (**self).event(number)
+    }
+}
+
+/// One of two sources, so that one type serves where a program chooses between them.
+impl<P: Source, Q: Source> Source for Either<P, Q> {
+    ghost season = { either P.Source.season Q.Source.season };
+
+    ghost events = { either P.Source.events Q.Source.events };
+
+    ghost few = { few_either P.Source.events Q.Source.events P.Source.few Q.Source.few };
+
+    fn season(&self) -> u16 {
+        for_both!(self, source => source.season())
+    }
+
+    fn count(&self) -> u16 {
+        for_both!(self, source => source.count())
+    }
+
+    fn event(&self, number: u16) -> Option<Event> {
+        for_both!(self, source => source.event(number))
     }
 }

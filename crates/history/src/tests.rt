@@ -19,6 +19,14 @@ fn event(kind: u8, session: u8, star: u8, revision: u16) -> Event {
     }
 }
 
+fn access(kind: u8, star: u8) -> Access {
+    event(kind, 0, star, 0).access()
+}
+
+fn candidate(number: u16, event: Event) -> Candidate {
+    Candidate { number, event }
+}
+
 /// A join of a pick of an offset of a table with another offset.
 #[test]
 fn a_pile_of_three_layers(rt: HostRuntime) {
@@ -59,6 +67,8 @@ fn a_pile_of_three_layers(rt: HostRuntime) {
     assert_eq!(rt; pile.event(3), Some(event(0, 3, 3, 0)));
     assert_eq!(rt; last(&&pile), Some(event(0, 3, 9, 101)));
     assert_eq!(rt; pile.event(5), None);
+    assert_eq!(rt; pile.iter().count(), 4);
+    assert_eq!(rt; pile.iter().last(), Some(event(0, 3, 9, 101)));
 }
 
 #[test]
@@ -73,16 +83,16 @@ fn seasons_rules_and_preferences(rt: HostRuntime) {
     };
     let apart = Join { first, second };
     assert_eq!(rt; apart.season(), 0);
-    assert!(rt; Strict.keeps(WRITE, 1, READ, 2));
-    assert!(rt; !Star.keeps(WRITE, 1, READ, 2));
-    assert!(rt; !Lag.keeps(WRITE, 1, READ, 2));
-    assert!(rt; Lag.keeps(WRITE, 1, READ, 1));
-    assert!(rt; Lag.keeps(READ, 1, WRITE, 2));
+    assert!(rt; Strict.keeps(access(WRITE, 1), access(READ, 2)));
+    assert!(rt; !Star.keeps(access(WRITE, 1), access(READ, 2)));
+    assert!(rt; !Lag.keeps(access(WRITE, 1), access(READ, 2)));
+    assert!(rt; Lag.keeps(access(WRITE, 1), access(READ, 1)));
+    assert!(rt; Lag.keeps(access(READ, 1), access(WRITE, 2)));
     let low = event(0, 5, 1, 0);
     let high = event(0, 4, 2, 0);
-    assert!(rt; ByNumber.prefers(1, high, 2, low));
-    assert!(rt; ByStar.prefers(2, low, 1, high));
-    assert!(rt; BySession.prefers(2, high, 1, low));
-    let mixed: Either<ByStar, BySession> = Either::Other(BySession);
-    assert!(rt; !mixed.prefers(1, low, 2, high));
+    assert!(rt; ByNumber.prefers(candidate(1, high), candidate(2, low)));
+    assert!(rt; ByStar.prefers(candidate(2, low), candidate(1, high)));
+    assert!(rt; BySession.prefers(candidate(2, high), candidate(1, low)));
+    let mixed: Either<ByStar, BySession> = Either::Right(BySession);
+    assert!(rt; !mixed.prefers(candidate(1, low), candidate(2, high)));
 }

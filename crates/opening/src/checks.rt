@@ -1,7 +1,8 @@
-ghost use Rattle.std.specs.Prelude.{◌≡◌, ◌≤◌, length};
-ghost use Rattle.order.specs.History.{event_at};
-ghost use Rattle.order.specs.Opening.{some_up_to, writes_same, keeps_limits, writes_revision, writes_first, reads_written};
-ghost use Rattle.opening.specs.Checks.{FirstFails};
+ghost use Rattle.std.specs.Prelude.{◌≡◌, ℕ, ◌<◌, ◌≤◌, Bool, length};
+ghost use Rattle.std.specs.List.{list_any};
+ghost use Rattle.history.specs.declared.event.Event.{Event};
+ghost use Rattle.order.specs.Opening.{writes_same, keeps_limits, writes_revision, writes_first, reads_written};
+ghost use Rattle.opening.specs.Checks.{FirstFails, AnswersAs, MakesFault};
 
 use crate::fault::HistoryFault;
 use history::{Event, READ, WRITE};
@@ -15,64 +16,72 @@ fn writes_same(e: Event, w: Event) -> bool
 
 /// Whether one of the events is a write of the star and the revision of `e`.
 fn has_write(events: &[Event], e: Event) -> bool
-    ensures { result ≡ some_up_to (length events.now) (λ j. writes_same e (event_at events.now j)) }
+    ensures { result ≡ list_any (writes_same e) events.now }
 {
-    for w in events {
-        if writes_same(e, *w) {
-            return true;
-        }
-    }
-    false
+    events.iter().any(|w| writes_same(e, *w))
 }
 
-/// Every event keeps the limits of a case.
-pub(crate) fn check_limits(events: &[Event]) -> Result<(), HistoryFault>
-    requires { length events.now ≤ 256 }
-    ensures { FirstFails 12 (keeps_limits events.now) (length events.now) result }
-{
-    for (i, e) in events.iter().enumerate() {
-        if !e.fits() {
-            return Err(HistoryFault::OutOfLimits(i as u16 + 1));
-        }
-    }
-    Ok(())
+/// At most 256 events, to be checked.
+#[derive(Clone, Copy)]
+pub(crate) struct Unchecked<'a> {
+    pub(crate) events: &'a [Event],
+    ghost few: { length events.now ≤ 256 },
 }
 
-/// Every write has a revision other than 0.
-pub(crate) fn check_revisions(events: &[Event]) -> Result<(), HistoryFault>
-    requires { length events.now ≤ 256 }
-    ensures { FirstFails 13 (writes_revision events.now) (length events.now) result }
-{
-    for (i, e) in events.iter().enumerate() {
-        if e.kind == WRITE && e.revision == 0 {
-            return Err(HistoryFault::WriteOfZero(i as u16 + 1));
+impl Unchecked<'_> {
+    /// Refuses the first event that does not pass a test, which is given the index of an event and the event.
+    fn check<P, F>(&self, passes: P, fault: F) -> Result<(), HistoryFault>
+    where
+        P: Fn(usize, Event) -> bool,
+        F: Fn(u16) -> HistoryFault,
+        requires tests { (i : ℕ) (e : Event) → i < length self.now.events.now → P.pre passes i e }
+        requires makes { F.IsAlwaysCallable fault }
+        ensures { (number : ℕ) (test : ℕ → Bool) → AnswersAs (P.post passes) self.now.events.now test → MakesFault (F.post fault) number → FirstFails number test (length self.now.events.now) result }
+    {
+        for (i, e) in self.events.iter().enumerate() {
+            if !passes(i, *e) {
+                return Err(fault(i as u16 + 1));
+            }
         }
+        Ok(())
     }
-    Ok(())
-}
 
-/// No write has the star and the revision of an earlier one.
-pub(crate) fn check_writes(events: &[Event]) -> Result<(), HistoryFault>
-    requires { length events.now ≤ 256 }
-    ensures { FirstFails 14 (writes_first events.now) (length events.now) result }
-{
-    for (i, e) in events.iter().enumerate() {
-        if e.kind == WRITE && has_write(&events[0..i], *e) {
-            return Err(HistoryFault::WrittenTwice(i as u16 + 1));
-        }
+    /// Every event keeps the limits of a case.
+    pub(crate) fn check_limits(&self) -> Result<(), HistoryFault>
+        ensures { FirstFails 12 (keeps_limits self.now.events.now) (length self.now.events.now) result }
+    {
+        self.check(|_, e| e.fits(), HistoryFault::OutOfLimits)
     }
-    Ok(())
-}
 
-/// Every read of a revision other than 0 has a write that carries it, earlier or later.
-pub(crate) fn check_reads(events: &[Event]) -> Result<(), HistoryFault>
-    requires { length events.now ≤ 256 }
-    ensures { FirstFails 15 (reads_written events.now) (length events.now) result }
-{
-    for (i, e) in events.iter().enumerate() {
-        if e.kind == READ && e.revision != 0 && !has_write(events, *e) {
-            return Err(HistoryFault::NeverWritten(i as u16 + 1));
-        }
+    /// Every write has a revision other than 0.
+    pub(crate) fn check_revisions(&self) -> Result<(), HistoryFault>
+        ensures { FirstFails 13 (writes_revision self.now.events.now) (length self.now.events.now) result }
+    {
+        self.check(
+            |_, e| e.kind != WRITE || e.revision != 0,
+            HistoryFault::WriteOfZero,
+        )
     }
-    Ok(())
+
+    /// No write has the star and the revision of an earlier one.
+    pub(crate) fn check_writes(&self) -> Result<(), HistoryFault>
+        ensures { FirstFails 14 (writes_first self.now.events.now) (length self.now.events.now) result }
+    {
+        let events = self.events;
+        self.check(
+            |i, e| e.kind != WRITE || !has_write(&events[..i], e),
+            HistoryFault::WrittenTwice,
+        )
+    }
+
+    /// Every read of a revision other than 0 has a write that carries it, earlier or later.
+    pub(crate) fn check_reads(&self) -> Result<(), HistoryFault>
+        ensures { FirstFails 15 (reads_written self.now.events.now) (length self.now.events.now) result }
+    {
+        let events = self.events;
+        self.check(
+            |_, e| e.kind != READ || e.revision == 0 || has_write(events, e),
+            HistoryFault::NeverWritten,
+        )
+    }
 }

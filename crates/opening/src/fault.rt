@@ -21,6 +21,7 @@ impl HistoryFault {
     pub fn number(self) -> u8
         ensures { result ≡ fault_number self }
     {
+        // By hand: variants that carry values have no number of their own to cast.
         match self {
             HistoryFault::TooMany => 11,
             HistoryFault::OutOfLimits(_) => 12,
@@ -36,10 +37,10 @@ impl HistoryFault {
     {
         match self {
             HistoryFault::TooMany => 257,
-            HistoryFault::OutOfLimits(n) => n,
-            HistoryFault::WriteOfZero(n) => n,
-            HistoryFault::WrittenTwice(n) => n,
-            HistoryFault::NeverWritten(n) => n,
+            HistoryFault::OutOfLimits(n)
+            | HistoryFault::WriteOfZero(n)
+            | HistoryFault::WrittenTwice(n)
+            | HistoryFault::NeverWritten(n) => n,
         }
     }
 }

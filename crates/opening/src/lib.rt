@@ -2,11 +2,9 @@
 
 #![tactic(auto)]
 
-mod checked;
 mod checks;
 mod copying;
 mod fault;
 
-pub use checked::Checked;
 pub use copying::check_source;
 pub use fault::HistoryFault;

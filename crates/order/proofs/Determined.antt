@@ -7,7 +7,7 @@ use Rattle.order.specs.History.{History, count, WellFormed, PairsOfEvents}
 use Rattle.order.specs.Orders.{Serializable}
 use Rattle.order.specs.Search.{Search, Outcome, fails, succeeds}
 use Rattle.order.specs.Opening.{Accepted}
-use Rattle.order.specs.Calls.{Preference, Verdict, serial, none, spent, Call, stipulate, lift, judge, show, Answer, refused, lifted, judged, shown, accepts, stipulate_answer, lift_answer, entered, ledger, Shows, JudgeAnswers, ShowAnswers, Turn, TurnLaw, calls_of, Stands, LawOverRuns, State, unjudged, standing, Held, opened, moved, Step, Run}
+use Rattle.order.specs.Calls.{Preference, Verdict, serial, none, spent, Call, stipulate, lift, judge, show, Answer, refused, lifted, judged, shown, accepts, stipulate_answer, lift_answer, entered, ledger, Shows, JudgeAnswers, ShowAnswers, Turn, TurnLaw, calls_of, SerialStands, LawOverRuns, State, unjudged, standing, Held, SerialHeld, opened, moved, Step, Run}
 use Rattle.order.specs.Theorems.{LawDecidesRuns}
 use Rattle.order.proofs.Fail.{failure_leaves_none}
 use Rattle.order.proofs.Success.{placed_there, placed_shows, shows_once}
@@ -54,7 +54,7 @@ same_turns h past [] [] l m e = refl
 same_turns h past [] (y ∷ ys) l m e = absurd (nil≢cons e)
 same_turns h past (x ∷ xs) [] l m e = absurd (nil≢cons (sym e))
 same_turns h past (x ∷ xs) (y ∷ ys) l m e =
-    let d : x ≡ y = same_turn h (ledger h (calls_of past)) (Stands past serial) x y (head-eq_of_cons-eq e) (l.law past x xs refl) (m.law past y ys refl) in
+    let d : x ≡ y = same_turn h (ledger h (calls_of past)) (SerialStands past) x y (head-eq_of_cons-eq e) (l.law past x xs refl) (m.law past y ys refl) in
     let r = same_turns h (past ++ (x ∷ [])) xs ys (subst (λ z. LawOverRuns h z) (sym (append_assoc past (x ∷ []) xs)) l)
     (subst (λ z. LawOverRuns h z) (ap (λ z. past ++ (z ∷ ys)) (sym d) ∙ sym (append_assoc past (x ∷ []) ys)) m) (tail-eq_of_cons-eq e) in
     cc
@@ -62,9 +62,9 @@ same_turns h past (x ∷ xs) (y ∷ ys) l m e =
 -- What a case holds is backed: its pairs are writes, and where serial stands the search from them succeeds.
 record Backed (h : History) (m : Held) : Type 0 where
   writes : AllWrites h m.pairs
-  found : m.state ≡ standing serial → (t : ℕ) × (Q : List (ℕ × ℕ)) × Search h m.pairs t (succeeds Q)
+  found : SerialHeld m.state → (t : ℕ) × (Q : List (ℕ × ℕ)) × Search h m.pairs t (succeeds Q)
 
-unjudged_never : {v : Verdict} → unjudged ≡ standing v → ⊥
+unjudged_never : {v : Verdict} {n : ℕ} → unjudged ≡ standing v n → ⊥
 unjudged_never e = let z : ◌≡◌ {A = ℕ} 0 1 = cc in omega arith
 
 module _ (h : History) (well : WellFormed h) (acc : Accepted h) where
@@ -84,11 +84,11 @@ module _ (h : History) (well : WellFormed h) (acc : Accepted h) where
     record { writes = enters h m.pairs (stipulate a b) k.writes; found = go (stipulate_answer h m.pairs a b) (stipulate_plain h m.pairs a b) },
   )
     where
-      go : (r : Answer) → Plain r → moved m.state r ≡ standing serial →
+      go : (r : Answer) → Plain r → SerialHeld (moved m.state r) →
           (t : ℕ) × (Q : List (ℕ × ℕ)) × Search h (cond (accepts r) (m.pairs ++ ((a, b) ∷ [])) m.pairs) t (succeeds Q)
-      go r (inl e) d = absurd (unjudged_never (sym (ap (moved m.state) e) ∙ d))
+      go r (inl e) d = absurd (unjudged_never (sym (ap (moved m.state) e) ∙ d.1))
       go r (inr e) d =
-          let f = k.found (sym (ap (moved m.state) e.1) ∙ d) in
+          let f = k.found (d.0, sym (ap (moved m.state) e.1) ∙ d.1) in
           (f.0, f.1, subst (λ z. Search h (cond (accepts z) (m.pairs ++ ((a, b) ∷ [])) m.pairs) f.0 (succeeds f.1)) (sym e.1) f.2)
 
   lifts : (m : Held) → Backed h m → Next m lift
@@ -100,20 +100,20 @@ module _ (h : History) (well : WellFormed h) (acc : Accepted h) where
     record { writes = enters h m.pairs lift k.writes; found = go (eqb (length m.pairs) 0) _ _ },
   )
     where
-      go : (b : Bool) (x y : ℕ) → moved m.state (cond b (refused 26) (lifted x y)) ≡ standing serial →
+      go : (b : Bool) (x y : ℕ) → SerialHeld (moved m.state (cond b (refused 26) (lifted x y))) →
           (t : ℕ) × (Q : List (ℕ × ℕ)) × Search h (cond (accepts (cond b (refused 26) (lifted x y))) (take (length m.pairs - 1) m.pairs) m.pairs) t (succeeds Q)
       go true x y d = k.found d
-      go false x y d = absurd (unjudged_never d)
+      go false x y d = absurd (unjudged_never d.1)
 
   judges : (m : Held) → Backed h m → (budget : ℕ) → Next m (judge budget)
   judges m k budget = elim (ℕ_discrete budget 0) [
     | yes e ↦ (record { call = judge budget; answer = refused 27; after = [] }, m, refl, record { law = (JudgeAnswers.no_budget e, refl); pairs = refl; state = refl }, k)
     | no n ↦ let r = judge_is_decided_lem h m.pairs budget well acc (inside m k) in (
       record { call = judge budget; answer = judged r.0 r.1; after = [] },
-      record { pairs = m.pairs; state = standing r.0 },
+      record { pairs = m.pairs; state = standing r.0 r.1 },
       refl,
       record { law = (JudgeAnswers.judges (omega arith) r.2, refl); pairs = refl; state = refl },
-      record { writes = k.writes; found = λ e. let d : r.0 ≡ serial = cc in go r.2.outcome r.2.search (r.2.serial_when.0 d).1 },
+      record { writes = k.writes; found = λ q. let e = q.1 in let d : r.0 ≡ serial = cc in go r.2.outcome r.2.search (r.2.serial_when.0 d).1 },
     )
   ]
     where
@@ -124,16 +124,16 @@ module _ (h : History) (well : WellFormed h) (acc : Accepted h) where
   shows : (m : Held) → Backed h m → (f : Preference) (buffer : List ℕ) → Next m (show f buffer)
   shows m k f buffer = go m.state refl
     where
-      refuses : ¬ (m.state ≡ standing serial) → Next m (show f buffer)
+      refuses : ¬ SerialHeld m.state → Next m (show f buffer)
       refuses n = (record { call = show f buffer; answer = refused 28; after = buffer }, m, refl, record { law = ShowAnswers.not_serial n; pairs = refl; state = refl }, k)
 
       go : (s : State) → m.state ≡ s → Next m (show f buffer)
-      go unjudged e = refuses (λ d. unjudged_never (sym e ∙ d))
-      go (standing none) e = refuses (λ d. let z : ◌≡◌ {A = ℕ} 0 1 = cc in omega arith)
-      go (standing spent) e = refuses (λ d. let z : ◌≡◌ {A = ℕ} 0 1 = cc in omega arith)
-      go (standing serial) e = elim (dec_lt (length buffer) (count h)) [
-        | yes l ↦ (record { call = show f buffer; answer = refused 29; after = buffer }, m, refl, record { law = ShowAnswers.too_short e l; pairs = refl; state = refl }, k)
-        | no l ↦ let s = k.found e in
+      go unjudged e = refuses (λ q. unjudged_never (sym e ∙ q.1))
+      go (standing none n) e = refuses (λ q. let d = q.1 in let z : ◌≡◌ {A = ℕ} 0 1 = cc in omega arith)
+      go (standing spent n) e = refuses (λ q. let d = q.1 in let z : ◌≡◌ {A = ℕ} 0 1 = cc in omega arith)
+      go (standing serial steps) e = elim (dec_lt (length buffer) (count h)) [
+        | yes l ↦ (record { call = show f buffer; answer = refused 29; after = buffer }, m, refl, record { law = ShowAnswers.too_short (steps, e) l; pairs = refl; state = refl }, k)
+        | no l ↦ let s = k.found (steps, e) in
             let r = placed_there h m.pairs s.1 s.0 well acc (inside m k) s.2 f in
             let w = placed_shows h m.pairs s.1 s.0 well acc (inside m k) s.2 r.1 in
             let n = r.1.order.long in (
@@ -141,7 +141,7 @@ module _ (h : History) (well : WellFormed h) (acc : Accepted h) where
               m,
               refl,
               record {
-                law = ShowAnswers.shows e (omega arith) (subst (λ z. Shows h m.pairs f z) (sym (take_at r.0 (drop (count h) buffer) (count h) n)) w)
+                law = ShowAnswers.shows (steps, e) (omega arith) (subst (λ z. Shows h m.pairs f z) (sym (take_at r.0 (drop (count h) buffer) (count h) n)) w)
                     (drop_at r.0 (drop (count h) buffer) (count h) n);
                 pairs = refl;
                 state = refl;
@@ -167,6 +167,6 @@ module _ (h : History) (well : WellFormed h) (acc : Accepted h) where
 
 pub law_decides_runs_lem : LawDecidesRuns
 law_decides_runs_lem h calls well acc =
-    let r = run h well acc opened (record { writes = λ a b m. absurd (Memᴰ.not-nil m); found = λ e. absurd (unjudged_never e) }) calls in
+    let r = run h well acc opened (record { writes = λ a b m. absurd (Memᴰ.not-nil m); found = λ e. absurd (unjudged_never e.1) }) calls in
     let l = (runs_are_lawful_lem h r.0 r.1 r.3).0 in
     (r.0, r.2, l, λ others e m. same_turns h [] others r.0 m l (e ∙ sym r.2))

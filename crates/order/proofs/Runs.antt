@@ -4,7 +4,7 @@ use mathlib.Core.List.Memᴰ
 use mathlib.Core.List.{nil≢cons, head-eq_of_cons-eq, tail-eq_of_cons-eq, Memᴰ}
 use Rattle.order.specs.History.{History, at, star_of}
 use Rattle.order.specs.Opening.{is_write}
-use Rattle.order.specs.Calls.{Verdict, serial, Call, stipulate, lift, judge, show, Answer, refused, stipulated, lifted, judged, accepts, is_number, stipulate_answer, Turn, TurnLaw, JudgeAnswers, ShowAnswers, calls_of, ends_verdict, Stands, State, unjudged, standing, Held, opened, moved, Step, Run, Leaves, entered_all, entered, ledger}
+use Rattle.order.specs.Calls.{Verdict, serial, Call, stipulate, lift, judge, show, Answer, refused, stipulated, lifted, judged, accepts, is_number, stipulate_answer, Turn, TurnLaw, JudgeAnswers, ShowAnswers, calls_of, ends_verdict, entered_all, entered, ledger, Stands, SerialStands, State, unjudged, standing, Held, SerialHeld, opened, moved, Step, Run, Leaves}
 use Rattle.order.specs.Theorems.{RunsAreLawful}
 
 -- What a turn is depends on the verdict only through whether serial stands.
@@ -88,18 +88,17 @@ unsnoc (p ∷ ps) t (x ∷ xs) u since e = elim (unsnoc ps t xs u since (tail-eq
 last_member : (s : List Turn) (t : Turn) → Memᴰ t (s ++ (t ∷ []))
 last_member s t = Memᴰ.append_right s (Memᴰ.head refl)
 
-differ : {v : Verdict} → unjudged ≡ standing v → ⊥
+differ : {v : Verdict} {n : ℕ} → unjudged ≡ standing v n → ⊥
 differ e = let z : ◌≡◌ {A = ℕ} 0 1 = cc in omega arith
 
 -- The verdict that stands, after one more turn.
-module _ (past : List Turn) (t : Turn) (v : Verdict) where
-  still : (T (ends_verdict t.call) → T (accepts t.answer) → ⊥) → Stands past v → Stands (past ++ (t ∷ [])) v
+module _ (past : List Turn) (t : Turn) (v : Verdict) (n : ℕ) where
+  still : (T (ends_verdict t.call) → T (accepts t.answer) → ⊥) → Stands past v n → Stands (past ++ (t ∷ [])) v n
   still q s = record {
     earlier = s.earlier;
     turn = s.turn;
     since = s.since ++ (t ∷ []);
     budget = s.budget;
-    steps = s.steps;
     call = s.call;
     answer = s.answer;
     split = ap (λ z. z ++ (t ∷ [])) s.split ∙ append_assoc s.earlier (s.turn ∷ s.since) (t ∷ []);
@@ -112,16 +111,15 @@ module _ (past : List Turn) (t : Turn) (v : Verdict) where
     ];
   }
 
-  was : Stands (past ++ (t ∷ [])) v → (Stands past v × (T (ends_verdict t.call) → ¬ T (accepts t.answer))) ⊎ ((budget : ℕ) × (steps : ℕ) × (t.call ≡ judge budget) × (t.answer ≡ judged v steps))
+  was : Stands (past ++ (t ∷ [])) v n → (Stands past v n × (T (ends_verdict t.call) → ¬ T (accepts t.answer))) ⊎ ((budget : ℕ) × (t.call ≡ judge budget) × (t.answer ≡ judged v n))
   was s = elim (unsnoc past t s.earlier s.turn s.since s.split) [
-    | inl r ↦ inr (s.budget, s.steps, ap (λ z. z.call) r.1 ∙ s.call, ap (λ z. z.answer) r.1 ∙ s.answer)
+    | inl r ↦ inr (s.budget, ap (λ z. z.call) r.1 ∙ s.call, ap (λ z. z.answer) r.1 ∙ s.answer)
     | inr r ↦ inl (
       record {
         earlier = s.earlier;
         turn = s.turn;
         since = r.0;
         budget = s.budget;
-        steps = s.steps;
         call = s.call;
         answer = s.answer;
         split = r.2;
@@ -141,50 +139,50 @@ module _ (h : History) where
   more : (past : List Turn) (t : Turn) (m m' : Held) → Leaves h past m → Step h m t m' → Leaves h (past ++ (t ∷ [])) m'
   more past t m m' l s = record {
     pairs = s.pairs ∙ ap (λ z. entered h z t.call) l.pairs ∙ sym (entered_last h [] past t);
-    state = λ v. go v (effect h m.pairs (m.state ≡ standing serial) t.call t.answer t.after s.law);
+    state = λ v n. go v n (effect h m.pairs (SerialHeld m.state) t.call t.answer t.after s.law);
   }
     where
-      go : (v : Verdict) → Effect t → (m'.state ≡ standing v) ↔ Stands (past ++ (t ∷ [])) v
-      go v (Effect.leaves same calm) = (
-        λ e. still past t v calm ((l.state v).0 (sym (s.state ∙ same m.state) ∙ e)),
-        λ x. elim (was past t v x) [
-          | inl y ↦ s.state ∙ same m.state ∙ (l.state v).1 y.0
-          | inr y ↦ absurd (calm (subst (λ z. T (ends_verdict z)) (sym y.2) tt) (subst (λ z. T (accepts z)) (sym y.3) tt))
+      go : (v : Verdict) (n : ℕ) → Effect t → (m'.state ≡ standing v n) ↔ Stands (past ++ (t ∷ [])) v n
+      go v n (Effect.leaves same calm) = (
+        λ e. still past t v n calm ((l.state v n).0 (sym (s.state ∙ same m.state) ∙ e)),
+        λ x. elim (was past t v n x) [
+          | inl y ↦ s.state ∙ same m.state ∙ (l.state v n).1 y.0
+          | inr y ↦ absurd (calm (subst (λ z. T (ends_verdict z)) (sym y.1) tt) (subst (λ z. T (accepts z)) (sym y.2) tt))
         ],
       )
-      go v (Effect.ends same d a other) =
-          (λ e. absurd (differ (sym (s.state ∙ same m.state) ∙ e)), λ x. absurd (elim (was past t v x) [ inl y ↦ y.1 d a | inr y ↦ other v y.1 y.3 ]))
-      go v (Effect.gives w budget steps c a) =
-          let now : m'.state ≡ standing w = s.state ∙ ap (moved m.state) a in (
-            λ e. let d : w ≡ v = cc in
+      go v n (Effect.ends same d a other) =
+          (λ e. absurd (differ (sym (s.state ∙ same m.state) ∙ e)), λ x. absurd (elim (was past t v n x) [ inl y ↦ y.1 d a | inr y ↦ other v n y.2 ]))
+      go v n (Effect.gives w budget steps c a) =
+          let now : m'.state ≡ standing w steps = s.state ∙ ap (moved m.state) a in (
+            λ e. let d : w ≡ v = cc in let f : steps ≡ n = cc in
                 record {
                   earlier = past;
                   turn = t;
                   since = [];
                   split = refl;
                   budget = budget;
-                  steps = steps;
                   call = c;
-                  answer = a ∙ ap (λ z. judged z steps) d;
+                  answer = cc;
                   none_since = λ u k. absurd (Memᴰ.not-nil k);
                 },
-            λ x. elim (was past t v x) [
+            λ x. elim (was past t v n x) [
               | inl y ↦ absurd (y.1 (subst (λ z. T (ends_verdict z)) (sym c) tt) (subst (λ z. T (accepts z)) (sym a) tt))
-              | inr y ↦ let d = y.3 in cc
+              | inr y ↦ let d = y.2 in cc
             ],
           )
 
   run_law : {m m' : Held} {ts : List Turn} (past : List Turn) → Run h m ts m' → Leaves h past m → (p : List Turn) (t : Turn) (rest : List Turn) → ts ≡ p ++ (t ∷ rest) →
-      TurnLaw h (ledger h (calls_of (past ++ p))) (Stands (past ++ p) serial) t
+      TurnLaw h (ledger h (calls_of (past ++ p))) (SerialStands (past ++ p)) t
   run_law past Run.stop l [] t rest e = absurd (nil≢cons e)
   run_law past Run.stop l (x ∷ xs) t rest e = absurd (nil≢cons e)
   run_law {m} past (Run.go {t = u} s r) l [] t rest e =
-      let w = turn_law h m.pairs (m.state ≡ standing serial) (Stands past serial) u.call u.answer u.after (l.state serial).0 (l.state serial).1 s.law in
-      let x : TurnLaw h (ledger h (calls_of past)) (Stands past serial) u = subst (λ z. TurnLaw h z (Stands past serial) u) l.pairs w in
-      subst (λ z. TurnLaw h (ledger h (calls_of z)) (Stands z serial) t) (sym (append-nil past))
-      (subst (λ z. TurnLaw h (ledger h (calls_of past)) (Stands past serial) z) (head-eq_of_cons-eq e) x)
+      let w = turn_law h m.pairs (SerialHeld m.state) (SerialStands past) u.call u.answer u.after
+      (λ q. (q.0, (l.state serial q.0).0 q.1)) (λ q. (q.0, (l.state serial q.0).1 q.1)) s.law in
+      let x : TurnLaw h (ledger h (calls_of past)) (SerialStands past) u = subst (λ z. TurnLaw h z (SerialStands past) u) l.pairs w in
+      subst (λ z. TurnLaw h (ledger h (calls_of z)) (SerialStands z) t) (sym (append-nil past))
+      (subst (λ z. TurnLaw h (ledger h (calls_of past)) (SerialStands past) z) (head-eq_of_cons-eq e) x)
   run_law {m} past (Run.go {m' = m₁} {t = u} s r) l (x ∷ xs) t rest e =
-      subst (λ z. TurnLaw h (ledger h (calls_of z)) (Stands z serial) t)
+      subst (λ z. TurnLaw h (ledger h (calls_of z)) (SerialStands z) t)
       (append_assoc past (u ∷ []) xs ∙ ap (λ z. past ++ (z ∷ xs)) (head-eq_of_cons-eq e))
       (run_law (past ++ (u ∷ [])) r (more past u m m₁ l s) xs t rest (tail-eq_of_cons-eq e))
 
@@ -194,7 +192,7 @@ module _ (h : History) where
       subst (λ z. Leaves h z m₂) (append_assoc past (u ∷ []) ts) (run_leaves (past ++ (u ∷ [])) r (more past u m m₁ l s))
 
   at_first : Leaves h [] opened
-  at_first = record { pairs = refl; state = λ v. (λ e. absurd (differ e), λ s. absurd (no_split s.earlier s.turn s.since s.split)) }
+  at_first = record { pairs = refl; state = λ v n. (λ e. absurd (differ e), λ s. absurd (no_split s.earlier s.turn s.since s.split)) }
 
 pub runs_are_lawful_lem : RunsAreLawful
 runs_are_lawful_lem h turns m r = (record { law = λ past t rest e. run_law h [] r (at_first h) past t rest e }, run_leaves h [] r (at_first h))

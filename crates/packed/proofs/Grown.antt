@@ -1,6 +1,6 @@
 -- A buffer that is written word by word.
 use Rattle.std.proofs.Common.{◌≡◌, ℕ, zero, suc, ◌+◌, ◌-◌, ◌*◌, ◌/◌, ◌%◌, ◌<◌, ◌≤◌, true, List, [], ◌∷◌, ◌++◌, length, get_or, take, drop, Some, sym, ap, ◌∙◌, inl, inr, add-one, arith, length-drop, take-append-drop, length-take-le, get_or-take}
-use Rattle.std.proofs.lemmas.List.{get_or-map, get_or-drop, ext_get_or, drop_more}
+use Rattle.std.proofs.lemmas.List.{get_or-map, get_or-drop, ext_get_or}
 use Rattle.std.proofs.lemmas.Bool.{cases_lt, and_parts}
 use Rattle.history.specs.declared.event.Event.{Event}
 use Rattle.history.specs.Lists.{numbered}
@@ -14,9 +14,6 @@ use Rattle.packed.proofs.Returns.{no_bit, past_bit}
 
 -- the event with a number, in the list and in the words
 module _ (es : List Event) (i : ℕ) (e : Event) (at : numbered es (i + 1) ≡ Some e) where
-  pub at_drop : drop i es ≡ e ∷ drop (i + 1) es
-  at_drop = drop_more es i e (numbered_at es i e at).0 ∙ ap (λ y. y ∷ drop (i + 1) es) (sym (numbered_at es i e at).1)
-
   pub at_word : (season : ℕ) → get_or (words season es) (i + 1) 0 ≡ event_word e
   at_word season =
       ap (λ n. get_or (words season es) n 0) (add-one i)

@@ -1,6 +1,7 @@
 -- The events that bytes mean, by number.
-use Rattle.std.proofs.Common.{◌≡◌, ℕ, zero, suc, ◌+◌, ◌-◌, ◌*◌, ◌<◌, ◌≤◌, List, length, get_or, Some, Ok, Err, Result, refl, ap, ◌∙◌, zero-add, add-one, arith}
+use Rattle.std.proofs.Common.{◌≡◌, ℕ, zero, suc, ◌+◌, ◌-◌, ◌*◌, ◌<◌, ◌≤◌, List, length, get_or, Some, Ok, Err, Result, refl, ap, ◌∙◌, subst, zero-add, add-one, arith}
 use Rattle.std.proofs.lemmas.List.FromFn.{get_or-map-range_with_len, length-map-range_with_len}
+use Rattle.std.specs.Result.{MatchResult}
 use Rattle.history.specs.Lists.{numbered}
 use Rattle.history.proofs.Numbered.{numbered_in}
 use Rattle.packed.specs.declared.header.Header.{Header}
@@ -9,8 +10,16 @@ use Rattle.packed.specs.Layout.{size}
 use Rattle.packed.specs.Reading.{count_in, event_in, events_in, events_by, events_meant, checked}
 use Rattle.packed.proofs.Sound.{sound}
 
-pub meant_count : (bs : List ℕ) (h : Header) → checked bs ≡ Ok h → length (events_meant bs) ≡ h.count
-meant_count bs h is = ap (λ r. length (events_by bs r)) is ∙ length-map-range_with_len (λ i. event_in bs (i + 1)) 0 (count_in bs) ∙ ap (λ k. k.count) (sound bs h is).1
+pub meant_count : (bs : List ℕ) → MatchResult (checked bs) (λ h. length (events_meant bs) ≡ h.count) (λ f. length (events_meant bs) ≡ 0)
+meant_count bs = by (checked bs) refl
+  where
+    by : (r : Result Header FileFault) → checked bs ≡ r → MatchResult r (λ h. length (events_by bs r) ≡ h.count) (λ f. length (events_by bs r) ≡ 0)
+    by (Ok h) is = length-map-range_with_len (λ i. event_in bs (i + 1)) 0 (count_in bs) ∙ ap (λ k. k.count) (sound bs h is).1
+    by (Err f) is = refl
+
+-- accepted bytes mean as many events as their header says
+pub accepted_count : (bs : List ℕ) (h : Header) → checked bs ≡ Ok h → length (events_meant bs) ≡ h.count
+accepted_count bs h e = subst (λ r. MatchResult r (λ h. length (events_meant bs) ≡ h.count) (λ f. length (events_meant bs) ≡ 0)) e (meant_count bs)
 
 -- an event that bytes mean lies within them, and is read where its number says
 pub record There (bs : List ℕ) (number : ℕ) : Type 0 where

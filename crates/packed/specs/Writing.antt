@@ -1,5 +1,6 @@
 -- What can be written, when writing is refused, and what it leaves in the buffer.
-use Rattle.std.specs.Prelude.{◌≡◌, ℕ, ◌≤◌, Bool, true, cond, not, ◌&&◌, List, [], ◌∷◌, ◌++◌, length, drop, Ok, Err, Result, nat_lt}
+use Rattle.std.specs.Prelude.{◌≡◌, ℕ, ◌≤◌, Bool, true, cond, not, List, ◌++◌, length, drop, Ok, Err, Result, nat_lt}
+use Rattle.std.specs.List.{list_all}
 use Rattle.history.specs.declared.event.Event.{Event}
 use Rattle.history.specs.Limits.{within_limits}
 use Rattle.packed.specs.declared.fault.WriteRefusal.{WriteRefusal}
@@ -8,8 +9,7 @@ use Rattle.packed.specs.Layout.{size, encode}
 
 -- Every event is within the limits.
 abbrev pub all_fitting : List Event → Bool
-all_fitting [] = true
-all_fitting (e ∷ es) = within_limits e && all_fitting es
+all_fitting = list_all within_limits
 
 -- A season and events that a file has room for.
 pub record Writable (season : ℕ) (es : List Event) : Type 0 where

@@ -9,6 +9,7 @@ pub(crate) fn bit_at(bytes: &[u8], i: usize) -> u8
     (bytes[i / 8] >> (7 - i % 8)) % 2
 }
 
+// `bit` and `width` stay two numbers: a struct of them would be made at each call, as `Field { bit: 16, width: 9 }` for `16, 9`.
 /// The number that `width` bits write, from `bit` on.
 pub(crate) fn bits_at(bytes: &[u8], bit: usize, width: usize) -> u16
     requires inside { bit + width ≤ 8 * length bytes.now }
@@ -16,6 +17,7 @@ pub(crate) fn bits_at(bytes: &[u8], bit: usize, width: usize) -> u16
     requires fits { bit + width < 2 ^ 64 }
     ensures { result ≡ field (bit_in 8 bytes.now) bit width }
 {
+    // A loop and no fold: that the value fits is the loop's invariant, and a fold did not prove without one.
     let mut value = 0;
     for k in 0..width {
         value = value * 2 + bit_at(bytes, bit + k) as u16;
@@ -43,6 +45,7 @@ pub(crate) fn put_bits(bytes: &mut [u8], bit: usize, width: usize, value: u16)
     requires fits { bit + width < 2 ^ 64 }
     ensures { Put bytes.old bytes.new bit width value }
 {
+    // k is the place of a bit in the number and in the bytes: there is nothing to iterate over.
     for k in 0..width {
         put_bit(bytes, bit + k, ((value >> (width - 1 - k)) % 2) as u8);
     }

@@ -21,6 +21,7 @@ impl FileFault {
     pub fn number(self) -> u8
         ensures { result ≡ fault_number self }
     {
+        // By hand: variants that carry values have no number of their own to cast.
         match self {
             FileFault::Short { .. } => 1,
             FileFault::Version => 2,
@@ -35,10 +36,9 @@ impl FileFault {
         ensures { result ≡ fault_place self }
     {
         match self {
-            FileFault::Short { bytes } => bytes,
+            FileFault::Short { bytes } | FileFault::Length { bytes } => bytes,
             FileFault::Version => 0,
             FileFault::Count => 16,
-            FileFault::Length { bytes } => bytes,
             FileFault::Fill { bit } => bit,
         }
     }
@@ -48,13 +48,13 @@ impl FileFault {
 #[derive(Clone, Copy, PartialEq, Eq, Debug)]
 pub enum WriteRefusal {
     /// There are more than 256 events.
-    Long,
+    Long = 31,
     /// An event has a kind above 1, a session above 15, a star above 63 or a revision above 16,383.
-    Outside,
+    Outside = 32,
     /// The season is above 4,095.
-    Season,
+    Season = 33,
     /// The buffer is too short.
-    Buffer,
+    Buffer = 34,
 }
 
 impl WriteRefusal {
@@ -62,11 +62,6 @@ impl WriteRefusal {
     pub fn number(self) -> u8
         ensures { result ≡ refusal_number self }
     {
-        match self {
-            WriteRefusal::Long => 31,
-            WriteRefusal::Outside => 32,
-            WriteRefusal::Season => 33,
-            WriteRefusal::Buffer => 34,
-        }
+        self as u8
     }
 }

@@ -26,12 +26,7 @@ fn first_one(bytes: &[u8], bit: usize, end: usize) -> Option<usize>
     requires { end ≤ 8 * length bytes.now }
     ensures { result ≡ first_one (bit_in 8 bytes.now) bit (end - bit) }
 {
-    for i in bit..end {
-        if bit_at(bytes, i) == 1 {
-            return Some(i);
-        }
-    }
-    None
+    (bit..end).find(|i| bit_at(bytes, *i) == 1)
 }
 
 /// The header of a packed file.
@@ -91,17 +86,11 @@ impl Source for Packed<'_> {
     ghost few = { λ p. few_meant p.bytes.now };
 
     fn season(&self) -> u16 {
-        match check(self.bytes) {
-            Ok(header) => header.season,
-            Err(_) => 0,
-        }
+        check(self.bytes).map_or(0, |header| header.season)
     }
 
     fn count(&self) -> u16 {
-        let Ok(header) = check(self.bytes) else {
-            return 0;
-        };
-        header.count
+        check(self.bytes).map_or(0, |header| header.count)
     }
 
     fn event(&self, number: u16) -> Option<Event> {

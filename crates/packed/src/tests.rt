@@ -3,6 +3,7 @@ use history::{Event, Source, Table};
 
 const FILE: &[u8; 13] = b"\x17\xEF\x01\x80\x30\x01\xC2\x18\x00\x11\x0C\x00\x70";
 
+// As in the tests of `history`: a test can lend nothing to another crate.
 fn event(kind: u8, session: u8, star: u8, revision: u16) -> Event {
     Event {
         kind,
@@ -14,10 +15,9 @@ fn event(kind: u8, session: u8, star: u8, revision: u16) -> Event {
 
 /// Season and count, or number and place of the fault.
 fn read(bytes: &[u8]) -> Result<(u16, u16), (u8, usize)> {
-    match check(bytes) {
-        Ok(header) => Ok((header.season, header.count)),
-        Err(fault) => Err((fault.number(), fault.place())),
-    }
+    check(bytes)
+        .map(|header| (header.season, header.count))
+        .map_err(|fault| (fault.number(), fault.place()))
 }
 
 #[test]
@@ -43,20 +43,15 @@ fn reads(rt: HostRuntime) {
 /// these bytes after.
 fn wrote(season: u16, events: &[Event], room: usize) -> (Result<usize, u8>, [u8; 16]) {
     let mut buffer = [0xAA; 16];
-    let answer = match write(&Table { season, events }, &mut buffer[0..room.min(16)]) {
-        Ok(used) => Ok(used),
-        Err(refusal) => Err(refusal.number()),
-    };
-    (answer, buffer)
+    let answer = write(&Table { season, events }, &mut buffer[0..room.min(16)]);
+    (answer.map_err(|refusal| refusal.number()), buffer)
 }
 
 #[test]
 fn writes(rt: HostRuntime) {
     let events = [event(0, 0, 3, 7), event(0, 1, 3, 0), event(1, 1, 3, 7)];
     let mut file = [0xAA; 16];
-    for i in 0..13 {
-        file[i] = FILE[i];
-    }
+    file[0..13].copy_from_slice(FILE);
     assert_eq!(rt; wrote(2031, &events, 16), (Ok(13), file));
     let kept = [0xAA; 16];
     assert_eq!(rt; wrote(4096, &[event(2, 0, 0, 0); 257], 16), (Err(31), kept));

@@ -7,33 +7,26 @@ ghost use Rattle.packed.specs.RoundTrips.{MeansAlone, ReadsBack};
 
 use crate::bits::put_bits;
 use crate::fault::WriteRefusal;
-use crate::header::{bits_used, bytes_used};
+use crate::header::{Header, bits_used, bytes_used};
 use history::{Event, Source};
 
 /// Whether all events of a source fit.
 fn all_fit<S: Source>(source: &S) -> bool
     ensures { result ≡ all_fitting (S.events source.now) }
 {
-    for i in 0..source.count() {
-        if let Some(e) = source.event(i + 1) {
-            if !e.fits() {
-                return false;
-            }
-        }
-    }
-    true
+    source.iter().all(|e| e.fits())
 }
 
 /// Writes the header.
-fn put_head(bytes: &mut [u8], season: u16, count: u16)
+fn put_head(bytes: &mut [u8], header: Header)
     requires inside { 4 ≤ length bytes.old }
-    requires season_fits { season ≤ 4095 }
-    requires count_fits { count ≤ 256 }
-    ensures { Put bytes.old bytes.new 0 25 (head_word season count) }
+    requires season_fits { header.season ≤ 4095 }
+    requires count_fits { header.count ≤ 256 }
+    ensures { Put bytes.old bytes.new 0 25 (head_word header.season header.count) }
 {
     put_bits(bytes, 0, 4, 1);
-    put_bits(bytes, 4, 12, season);
-    put_bits(bytes, 16, 9, count);
+    put_bits(bytes, 4, 12, header.season);
+    put_bits(bytes, 16, 9, header.count);
 }
 
 /// Writes the event with a number.
@@ -67,11 +60,10 @@ fn put_all<S: Source>(source: &S, bytes: &mut [u8]) -> usize
     ensures back { MeansAlone (take result bytes.new) (S.season source.now) (S.events source.now) }
 {
     let count = source.count();
-    put_head(bytes, source.season(), count);
-    for i in 0..count {
-        if let Some(e) = source.event(i + 1) {
-            put_event(bytes, i + 1, e);
-        }
+    let season = source.season();
+    put_head(bytes, Header { season, count });
+    for (i, e) in source.iter().enumerate() {
+        put_event(bytes, i as u16 + 1, e);
     }
     put_fill(bytes, count);
     bytes_used(count)

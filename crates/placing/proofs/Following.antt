@@ -1,5 +1,6 @@
 -- The numbers that are placed follow every order that is placed at a node of which the rows are.
-use Rattle.std.proofs.Common.{◌≡◌, ℕ, zero, suc, ◌+◌, ◌-◌, ◌<◌, ◌≤◌, true, ◌||◌, eqb, ◌↔◌, List, length, get_or, take, set, sym, ap, ◌∙◌, subst, inl, inr, arith, length-take-le, get_or-set_other, get_or-take, get_or-set_same, ext_get_or, below_more}
+use Rattle.std.proofs.Common.{◌≡◌, ℕ, zero, suc, ◌+◌, ◌-◌, ◌<◌, ◌≤◌, true, ◌||◌, eqb, ◌↔◌, List, [], ◌∷◌, ◌++◌, length, get_or, take, sym, refl, ap, ◌∙◌, subst, inl, inr, arith, take_all}
+use Rattle.std.proofs.lemmas.List.{take_more}
 use Rattle.std.proofs.lemmas.Bool.{true≢false, cases_eq, cases_lt, cases_Bool, or_cases, or_left, or_right, eq-eqb, eqb-true}
 use Rattle.history.specs.declared.event.Event.{Event}
 use Rattle.order.specs.History.{History, count, Number}
@@ -13,9 +14,9 @@ use Rattle.sets.specs.Sets.{has, Empty}
 use Rattle.sets.specs.declared.set.EventSet.{EventSet}
 use Rattle.placing.specs.Placing.{BeforeRows, PlacesAll, CanBePlaced, MostPreferred}
 
--- The first k numbers are those of σ, and the events that are placed are those with these numbers.
+-- The numbers are the first k of σ, and the events that are placed are those with these numbers.
 pub record SoFar {W : ℕ} (σ : List ℕ) (k : ℕ) (numbers : List ℕ) (placed : EventSet W) : Type 0 where
-  pub same : (j : ℕ) → j < k → get_or numbers j 0 ≡ get_or σ j 0
+  pub same : numbers ≡ take k σ
   pub events : (x : ℕ) → (has placed x ≡ true) ↔ (place σ (suc x) < k)
 
 -- That is so of every order that is placed.
@@ -85,11 +86,12 @@ module _ {W : ℕ} (f : Preference) (h : History) (Q : List (ℕ × ℕ)) (σ : 
           (p.preferred k (suc x) l a (λ e. ne (let d = due_number in omega arith))))
     ]
 
-    pub one_more : k < length numbers → (more : EventSet W) → ((j : ℕ) → has more j ≡ (eqb j x || has placed j)) → SoFar σ (k + 1) (set numbers k (x + 1)) more
-    one_more long more is = record {
-      same = below_more (λ j. get_or (set numbers k (x + 1)) j 0 ≡ get_or σ j 0) k
-          (λ j u. get_or-set_other numbers k j (x + 1) 0 (λ e. omega arith) ∙ s.same j u)
-          (get_or-set_same numbers k (x + 1) 0 long ∙ (let e = is_next in omega arith));
+    pub one_more : (more : EventSet W) → ((j : ℕ) → has more j ≡ (eqb j x || has placed j)) → SoFar σ (k + 1) (numbers ++ ((x + 1) ∷ [])) more
+    one_more more is = record {
+      same =
+          let long : k < length σ = omega (arith, p.order.long) in
+          let due : x + 1 ≡ get_or σ k 0 = let e = is_next in omega arith in
+          ap (λ ns. ns ++ ((x + 1) ∷ [])) s.same ∙ ap (λ n. take k σ ++ (n ∷ [])) due ∙ sym (take_more σ k 0 long);
       events = λ y. (placed_e y, placed_i y);
     }
       where
@@ -110,20 +112,20 @@ module _ {W : ℕ} (f : Preference) (h : History) (Q : List (ℕ × ℕ)) (σ : 
         ]
 
 module _ {W : ℕ} (f : Preference) (es : List Event) (rows : List (EventSet W)) where
-  pub none_yet : (numbers : List ℕ) (placed : EventSet W) → Empty placed → AllSoFar f es rows 0 numbers placed
-  none_yet numbers placed none h Q σ is before p = record {
-    same = λ j u. absurd (omega arith);
+  pub none_yet : (placed : EventSet W) → Empty placed → AllSoFar f es rows 0 [] placed
+  none_yet placed none h Q σ is before p = record {
+    same = refl;
     events = λ x. (λ t. absurd (true≢false (sym t ∙ none x)), λ u. absurd (omega arith));
   }
 
   module _ (k : ℕ) (l : k < length es) (numbers : List ℕ) (placed : EventSet W) (s : AllSoFar f es rows k numbers placed) where
     -- The most preferred is placed.
-    pub all_one_more : (x : ℕ) → MostPreferred f.prefers es rows placed (length es) x → k < length numbers →
-        (more : EventSet W) → ((j : ℕ) → has more j ≡ (eqb j x || has placed j)) → AllSoFar f es rows (k + 1) (set numbers k (x + 1)) more
-    all_one_more x m long more is h Q σ same before p =
+    pub all_one_more : (x : ℕ) → MostPreferred f.prefers es rows placed (length es) x →
+        (more : EventSet W) → ((j : ℕ) → has more j ≡ (eqb j x || has placed j)) → AllSoFar f es rows (k + 1) (numbers ++ ((x + 1) ∷ [])) more
+    all_one_more x m more is h Q σ same before p =
         let u : k < count h = omega (arith, ap length same) in
         one_more f h Q σ rows before p k u numbers placed (s h Q σ same before p) x
-        (subst (λ e. MostPreferred f.prefers e rows placed (length e) x) (sym same) m) long more is
+        (subst (λ e. MostPreferred f.prefers e rows placed (length e) x) (sym same) m) more is
 
     -- There is one.
     pub all_some_next : ((y : ℕ) → y < length es → ¬ CanBePlaced rows placed y) → AllSoFar f es rows (k + 1) numbers placed
@@ -131,9 +133,6 @@ module _ {W : ℕ} (f : Preference) (es : List Event) (rows : List (EventSet W))
         let u : k < count h = omega (arith, ap length same) in
         absurd (some_next f h Q σ rows before p k u numbers placed (s h Q σ same before p) (λ y v. none y (omega (arith, ap length same))))
 
-  pub all_placed : (numbers : List ℕ) (placed : EventSet W) → length es ≤ length numbers → AllSoFar f es rows (length es) numbers placed → PlacesAll f es rows numbers
-  all_placed numbers placed long s h Q σ same before p =
-      let n : count h ≡ length es = ap length same in
-      let m : length σ ≡ count h = p.order.long in
-      let t : length (take (count h) numbers) ≡ count h = length-take-le (count h) numbers (omega arith) in
-      ext_get_or 0 (take (count h) numbers) σ (t ∙ sym m) (λ j u. get_or-take (count h) numbers j 0 (omega arith) ∙ (s h Q σ same before p).same j (omega arith))
+  pub all_placed : (numbers : List ℕ) (placed : EventSet W) → AllSoFar f es rows (length es) numbers placed → PlacesAll f es rows numbers
+  all_placed numbers placed s h Q σ same before p =
+      (s h Q σ same before p).same ∙ take_all (length es) σ (omega (arith, p.order.long, ap length same))

@@ -1,8 +1,8 @@
 -- The order that places, again and again, the most preferred event whose predecessors are all placed. An event x of the
 -- rows has the number x + 1 in a history.
-use Rattle.std.specs.Prelude.{◌≡◌, ℕ, suc, ◌*◌, ◌<◌, ◌≤◌, Bool, true, false, ◌≢◌, ◌↔◌, List, take, Some, None, Option}
+use Rattle.std.specs.Prelude.{◌≡◌, ℕ, suc, ◌*◌, ◌<◌, ◌≤◌, Bool, true, false, ◌≢◌, ◌↔◌, List, Some, None, Option}
 use Rattle.history.specs.declared.event.Event.{Event}
-use Rattle.order.specs.History.{History, event_at, count}
+use Rattle.order.specs.History.{History, event_at}
 use Rattle.order.specs.Before.{Before}
 use Rattle.order.specs.Calls.{Preference, Placed}
 use Rattle.sets.specs.Sets.{has}
@@ -19,10 +19,10 @@ pub record Room (n N W : ℕ) : Type 0 where
 abbrev pub BeforeRows : {W : ℕ} → History → List (ℕ × ℕ) → List (EventSet W) → Type 0
 BeforeRows h Q rows = (x y : ℕ) → (in_rows rows y x ≡ true) ↔ Before h Q (suc x) (suc y)
 
--- Whatever history of these events and whatever node the rows are those of, the numbers begin with the order that is placed there.
+-- Whatever history of these events and whatever node the rows are those of, the numbers are the order that is placed there.
 abbrev pub PlacesAll : {W : ℕ} → Preference → List Event → List (EventSet W) → List ℕ → Type 0
 PlacesAll f es rows numbers =
-    (h : History) (Q : List (ℕ × ℕ)) (σ : List ℕ) → h.events ≡ es → BeforeRows h Q rows → Placed h Q f σ → take (count h) numbers ≡ σ
+    (h : History) (Q : List (ℕ × ℕ)) (σ : List ℕ) → h.events ≡ es → BeforeRows h Q rows → Placed h Q f σ → numbers ≡ σ
 
 -- The event x is preferred to the event y.
 abbrev pub prefers_to : (ℕ → Event → ℕ → Event → Bool) → List Event → ℕ → ℕ → Bool

@@ -2,33 +2,36 @@
 
 #![tactic(auto)]
 
-ghost use Rattle.std.specs.Prelude.{◌≡◌, ℕ, ◌*◌, ◌<◌, ◌≤◌, true, length, IfSome, Decides, MatchOption, slice_index};
+ghost use Rattle.std.specs.Prelude.{◌≡◌, ℕ, ◌*◌, ◌<◌, ◌≤◌, suc, true, length, IfSome, Decides, MatchOption};
+ghost use Rattle.arrayvec.specs.ArrayVec.{array_vec_len};
 ghost use Rattle.sets.specs.Sets.{has};
+ghost use Rattle.order.specs.History.{event_at};
 ghost use Rattle.placing.specs.Placing.{Room, PlacesAll, prefers_to, CanBePlaced, Next};
 
-use history::{Event, Preference};
+use arrayvec::ArrayVec;
+use history::{Candidate, Event, Preference};
 use sets::EventSet;
 
-/// The order that places, again and again, the most preferred event whose predecessors are all placed; the rest of the
-/// array is 0.
+/// The order that places, again and again, the most preferred event whose predecessors are all placed.
 ///
 /// `rows` has for each of the events those before it.
 pub fn place<P: Preference, const N: usize, const W: usize>(
     events: &[Event],
     rows: &[EventSet<W>; N],
     preference: &P,
-) -> [u16; N]
+) -> ArrayVec<u16, N>
     requires { Room (length events.now) N W }
-    ensures placed { PlacesAll (record { prefers = P.Preference.prefers preference.now; lawful = P.Preference.lawful preference.now }) events.now rows.now result }
-    ensures rest { (k : ℕ) → length events.now ≤ k → slice_index result k ≡ 0 }
+    ensures placed { PlacesAll (record { prefers = P.Preference.prefers preference.now; lawful = P.Preference.lawful preference.now }) events.now rows.now result.items }
+    ensures few { array_vec_len result ≤ length events.now }
 {
-    let mut order = [0; N];
+    let mut order = ArrayVec::new();
     let mut placed = EventSet::new();
-    for k in 0..events.len() {
+    // as many rounds as there are events; a round names no event
+    for _ in 0..events.len() {
         // there is one, unless some event is before itself
         if let Some(x) = next(events, rows, &placed, preference) {
             placed.insert(x);
-            order[k] = x as u16 + 1;
+            order.push(x as u16 + 1);
         }
     }
     order
@@ -45,6 +48,7 @@ fn next<P: Preference, const N: usize, const W: usize>(
     ensures { Next (P.Preference.prefers preference.now) events.now rows.now placed.now (length events.now) result }
 {
     let mut best = None;
+    // an index is an event's name in rows and sets, so `iter().enumerate()` would bind an event that nothing reads
     for x in 0..events.len() {
         if is_ready(rows, placed, x) && is_better(events, preference, x, best) {
             best = Some(x);
@@ -75,6 +79,19 @@ fn is_subset<const W: usize>(set: &EventSet<W>, other: &EventSet<W>) -> bool
     !missing.intersects(&missing)
 }
 
+/// The event at a place, with its number.
+fn candidate(events: &[Event], x: usize) -> Candidate
+    requires short { length events.now ≤ 65535 }
+    requires inside { x < length events.now }
+    ensures number { result.number ≡ suc x }
+    ensures event { result.event ≡ event_at events.now (suc x) }
+{
+    Candidate {
+        number: x as u16 + 1,
+        event: events[x],
+    }
+}
+
 /// Whether the event `x` is preferred to the best so far, if there is one.
 fn is_better<P: Preference>(events: &[Event], preference: &P, x: usize, best: Option<usize>) -> bool
     requires short { length events.now ≤ 65535 }
@@ -83,7 +100,7 @@ fn is_better<P: Preference>(events: &[Event], preference: &P, x: usize, best: Op
     ensures { MatchOption best (result ≡ true) (λ b. result ≡ prefers_to (P.Preference.prefers preference.now) events.now x b) }
 {
     match best {
-        Some(b) => preference.prefers(x as u16 + 1, events[x], b as u16 + 1, events[b]),
+        Some(b) => preference.prefers(candidate(events, x), candidate(events, b)),
         None => true,
     }
 }

@@ -1,6 +1,5 @@
 -- What holds of the stipulations of a case and of the numbers of its events.
-use Rattle.std.proofs.Common.{◌≡◌, ℕ, ◌-◌, ◌≤◌, true, leb, length, take, sym, ap, arith}
-use Rattle.std.proofs.lemmas.List.{length-take-le}
+use Rattle.std.proofs.Common.{◌≡◌, ℕ, ◌≤◌, true, leb, sym, arith}
 use Rattle.std.proofs.lemmas.Bool.{and_parts, leb-true}
 use Rattle.order.specs.History.{count, PairsOfEvents}
 use Rattle.order.specs.Calls.{is_number}
@@ -17,16 +16,8 @@ module _ (c : Case) where
       let e = record_count c.recorded in
       (record { low = p.0; high = omega (arith, p.1) }, record { low = p.2; high = omega (arith, p.3) })
 
-  -- as many of them as the case says
-  pub pairs_many : length (pairs_of c) ≡ c.standing
-  pairs_many = length-take-le c.standing c.stipulations (let a = c.stands in let b = c.room in omega arith)
-
-  -- the slice of them is they
-  pub slice_pairs : take (c.standing - 0) c.stipulations ≡ pairs_of c
-  slice_pairs = let e : c.standing - 0 ≡ c.standing = omega arith in ap (λ n. take n c.stipulations) e
-
   -- the number of an event goes from 1 to the count
-  pub number_bounds : (a : ℕ) → true ≡ is_number (history_in c.recorded) a → (1 ≤ a) × (a ≤ c.recorded.count)
+  pub number_bounds : (a : ℕ) → true ≡ is_number (history_in c.recorded) a → (1 ≤ a) × (a ≤ count (history_in c.recorded))
   number_bounds a k =
       let p = and_parts (leb 1 a) (leb a (count (history_in c.recorded))) (sym k) in
       let m = leb-true a (count (history_in c.recorded)) p.1 in

@@ -11,11 +11,11 @@ use Rattle.saturation.specs.Relations.{earlier}
 use Rattle.saturation.specs.Recorded.{history_in}
 use Rattle.saturation.specs.declared.record.Recorded.{Recorded}
 use Rattle.saturation.proofs.Records.{record_well, record_accepted}
-use Rattle.tree_search.specs.Walks.{After, Successful, node_of, choices_of}
-use Rattle.tree_search.specs.Searches.{Ran}
-use Rattle.tree_search.specs.declared.walk.Progress.{Progress}
-use Rattle.tree_search.specs.declared.walk.Progress.TheVariants.{Running, Succeeded, Failed}
-use Rattle.tree_search.specs.declared.tree.Search.{Search}
+use Rattle.search.specs.Walks.{After, Successful, node_of, choices_of}
+use Rattle.search.specs.Searches.{Ran}
+use Rattle.search.specs.declared.walk.Progress.{Progress}
+use Rattle.search.specs.declared.walk.Progress.TheVariants.{Running, Succeeded, Failed}
+use Rattle.search.specs.declared.tree.Search.{Search}
 use Rattle.referee.specs.Nodes.{AtNode}
 
 module _ {N W T : ℕ} (r : Recorded N W) (S : List (ℕ × ℕ)) (inside : PairsOfEvents (history_in r) S) (budget : ℕ) (x y : Search N W T) (p : Progress)

@@ -1,5 +1,5 @@
 -- What forced and clash say of a case that is not closed.
-use Rattle.std.proofs.Common.{◌≡◌, ℕ, suc, ◌<◌, Bool, true, ◌&&◌, ◌↔◌, List, Some, None, Ok, refl, arith}
+use Rattle.std.proofs.Common.{◌≡◌, ℕ, suc, ◌<◌, Bool, true, ◌&&◌, ◌↔◌, List, Some, None, Ok, sym, true≢false, arith}
 use Rattle.order.specs.History.{History}
 use Rattle.order.specs.Before.{Before, Clash}
 use Rattle.order.specs.Calls.{is_number}
@@ -7,6 +7,7 @@ use Rattle.order.proofs.Saturated.{before_numbers}
 use Rattle.saturation.specs.Recorded.{history_in}
 use Rattle.saturation.proofs.Records.{record_count, record_well}
 use Rattle.closure.specs.Closures.{FirstClash}
+use Rattle.referee.specs.Verdicts.{is_open}
 use Rattle.referee.specs.Meaning.{meaning_by, pairs_of}
 use Rattle.referee.specs.Looking.{ForcedIs, ClashIs}
 use Rattle.referee.proofs.Cases.{inside_events}
@@ -15,20 +16,20 @@ use Rattle.referee.specs.declared.state.State.TheVariants.{Closed, Unjudged, Jud
 use Rattle.referee.specs.declared.case.Case.{Case}
 
 module _ (h : History) (S : List (ℕ × ℕ)) where
-  pub forced_is : (s : State) → (s ≡ Closed → ⊥) → (a b : ℕ) (r : Bool) → (is_number h a && is_number h b) ≡ true → (r ≡ true) ↔ Before h S a b → ForcedIs (meaning_by h S s) a b (Ok r)
-  forced_is Closed n a b r k e = absurd (n refl)
+  pub forced_is : (s : State) → is_open s ≡ true → (a b : ℕ) (r : Bool) → (is_number h a && is_number h b) ≡ true → (r ≡ true) ↔ Before h S a b → ForcedIs (meaning_by h S s) a b (Ok r)
+  forced_is Closed n a b r k e = absurd (true≢false (sym n))
   forced_is Unjudged n a b r k e = (k, e)
-  forced_is (Judged v m) n a b r k e = (k, e)
+  forced_is (Judged j) n a b r k e = (k, e)
 
-  pub clash_is : (s : State) → (s ≡ Closed → ⊥) → (a : ℕ) → FirstClash h S a → ClashIs (meaning_by h S s) (Ok (Some a))
-  clash_is Closed n a f = absurd (n refl)
+  pub clash_is : (s : State) → is_open s ≡ true → (a : ℕ) → FirstClash h S a → ClashIs (meaning_by h S s) (Ok (Some a))
+  clash_is Closed n a f = absurd (true≢false (sym n))
   clash_is Unjudged n a f = f
-  clash_is (Judged v m) n a f = f
+  clash_is (Judged j) n a f = f
 
-  pub clash_is_none : (s : State) → (s ≡ Closed → ⊥) → ¬ Clash h S → ClashIs (meaning_by h S s) (Ok None)
-  clash_is_none Closed n f = absurd (n refl)
+  pub clash_is_none : (s : State) → is_open s ≡ true → ¬ Clash h S → ClashIs (meaning_by h S s) (Ok None)
+  clash_is_none Closed n f = absurd (true≢false (sym n))
   clash_is_none Unjudged n f = f
-  clash_is_none (Judged v m) n f = f
+  clash_is_none (Judged j) n f = f
 
 -- An event that clashes is one of the 256.
 pub clash_below : (c : Case) (x : ℕ) → FirstClash (history_in c.recorded) (pairs_of c) (suc x) → x < 256

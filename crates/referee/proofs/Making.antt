@@ -3,7 +3,7 @@ use Rattle.std.proofs.Common.{◌≡◌, ℕ, ◌+◌, ◌<◌, ◌≤◌, ◌�
 use Rattle.std.proofs.lemmas.List.{take_more, take_more_set, get_or_default}
 use Rattle.order.specs.History.{History}
 use Rattle.order.specs.Calls.{Preference, Turn}
-use Rattle.runs.specs.Runs.{Held, opened, Step, Run}
+use Rattle.order.specs.Calls.{Held, opened, Step, Run}
 use Rattle.referee.specs.Entries.{turn_of, turns_of, Stays}
 use Rattle.referee.specs.declared.entry.Entry.{Entry}
 

@@ -1,38 +1,39 @@
 -- A run of two calls: judge, and then show.
-use Rattle.std.proofs.Common.{◌≡◌, ℕ, ◌≤◌, List, [], ◌∷◌, length, get_or, take, refl, ap, ◌∙◌, subst₂, arith}
+use Rattle.std.proofs.Common.{◌≡◌, ℕ, ◌≤◌, List, [], ◌∷◌, length, get_or, take, Some, None, Ok, Err, Option, Result, refl, ap, ◌∙◌, subst₂, arith}
 use mathlib.Core.List.Memᴰ
 use Rattle.order.specs.History.{History, count}
 use Rattle.order.specs.Calls as order
 use Rattle.order.specs.Calls.{Preference, Judges, Shows, JudgeAnswers, ShowAnswers, Turn}
-use Rattle.runs.specs.Runs.{Stands, SerialStands, LawOverRuns}
+use Rattle.order.specs.Calls.{SerialStands, LawOverRuns}
 use Rattle.referee.specs.Entries.{answer_of, turn_of, turns_of}
 use Rattle.referee.specs.Verdicts.{verdict_of}
+use Rattle.referee.specs.declared.refusal.Refusal.{Refusal}
 use Rattle.referee.specs.declared.state.Judgement.{Judgement}
 use Rattle.referee.specs.declared.state.Verdict.TheVariants.{Serial}
 use Rattle.referee.specs.declared.entry.Call.TheVariants.{Judge, Show}
 use Rattle.referee.specs.declared.entry.Answer.{Answer}
-use Rattle.referee.specs.declared.entry.Answer.TheVariants.{Unasked, Refused, Stipulated, Lifted, Judged, Shown}
+use Rattle.referee.specs.declared.entry.Answer.TheVariants.{Stipulated, Lifted, Judged, Shown}
 use Rattle.referee.specs.declared.entry.Entry.{Entry}
 
 -- A judge with a budget answers a judgement, which is what judge finds.
-abbrev Found : History → List (ℕ × ℕ) → ℕ → Answer → Type 0
-Found h S budget a = (j : Judgement) × (a ≡ Judged j) × Judges h S budget (verdict_of j.verdict) j.steps
+abbrev Found : History → List (ℕ × ℕ) → ℕ → Option (Result Answer Refusal) → Type 0
+Found h S budget a = (j : Judgement) × (a ≡ Some (Ok (Judged j))) × Judges h S budget (verdict_of j.verdict) j.steps
 
-judge_finds : (h : History) (S : List (ℕ × ℕ)) (budget : ℕ) (a : Answer) → 1 ≤ budget → JudgeAnswers h S budget (answer_of a) → Found h S budget a
+judge_finds : (h : History) (S : List (ℕ × ℕ)) (budget : ℕ) (a : Option (Result Answer Refusal)) → 1 ≤ budget → JudgeAnswers h S budget (answer_of a) → Found h S budget a
 judge_finds h S budget a l answers = go a answers refl
   where
-    by : {v : order.Verdict} {steps : ℕ} (a : Answer) → Judges h S budget v steps → order.judged v steps ≡ answer_of a → Found h S budget a
-    by Unasked j e = absurd (let z : ◌≡◌ {A = ℕ} 0 1 = cc in omega arith)
-    by (Refused x) j e = absurd (let z : ◌≡◌ {A = ℕ} 0 1 = cc in omega arith)
-    by Stipulated j e = absurd (let z : ◌≡◌ {A = ℕ} 0 1 = cc in omega arith)
-    by (Lifted x y) j e = absurd (let z : ◌≡◌ {A = ℕ} 0 1 = cc in omega arith)
-    by (Shown n) j e = absurd (let z : ◌≡◌ {A = ℕ} 0 1 = cc in omega arith)
-    by {v} {steps} (Judged found) j e =
+    by : {v : order.Verdict} {steps : ℕ} (a : Option (Result Answer Refusal)) → Judges h S budget v steps → order.judged v steps ≡ answer_of a → Found h S budget a
+    by None j e = absurd (let z : ◌≡◌ {A = ℕ} 0 1 = cc in omega arith)
+    by (Some (Err x)) j e = absurd (let z : ◌≡◌ {A = ℕ} 0 1 = cc in omega arith)
+    by (Some (Ok Stipulated)) j e = absurd (let z : ◌≡◌ {A = ℕ} 0 1 = cc in omega arith)
+    by (Some (Ok (Lifted x y))) j e = absurd (let z : ◌≡◌ {A = ℕ} 0 1 = cc in omega arith)
+    by (Some (Ok (Shown n))) j e = absurd (let z : ◌≡◌ {A = ℕ} 0 1 = cc in omega arith)
+    by {v} {steps} (Some (Ok (Judged found))) j e =
         let one : v ≡ verdict_of found.verdict = cc in
         let two : steps ≡ found.steps = cc in
         (found, refl, subst₂ (Judges h S budget) one two j)
 
-    go : {r : order.Answer} (a : Answer) → JudgeAnswers h S budget r → r ≡ answer_of a → Found h S budget a
+    go : {r : order.Answer} (a : Option (Result Answer Refusal)) → JudgeAnswers h S budget r → r ≡ answer_of a → Found h S budget a
     go a (JudgeAnswers.no_budget e) same = absurd (omega arith)
     go a (JudgeAnswers.judges n j) same = by a j same
 
@@ -61,10 +62,10 @@ serial_stands t budget steps c a = (
 
 -- A case just opened that is asked to judge and then to show answers a judgement first; where that is serial, the buffer of the
 -- second call has the preferred order at its front.
-pub judge_then_show : {P B : Type 0} (means : P → Preference) (numbers : B → List ℕ) (h : History) (budget : ℕ) (p : P) (b₀ b₁ : B) (a₀ a₁ : Answer)
+pub judge_then_show : {P B : Type 0} (means : P → Preference) (numbers : B → List ℕ) (h : History) (budget : ℕ) (p : P) (b₀ b₁ : B) (a₀ a₁ : Option (Result Answer Refusal))
     (es' : List (Entry P B)) (d : Entry P B) → 1 ≤ budget → count h ≤ length (numbers b₁) → length es' ≡ 2 →
     LawOverRuns h (turns_of means numbers (record { call = Judge budget; buffer = b₀; answer = a₀ } ∷ record { call = Show p; buffer = b₁; answer = a₁ } ∷ []) es') →
-    (j : Judgement) × ((get_or es' 0 d).answer ≡ Judged j) × Judges h [] budget (verdict_of j.verdict) j.steps ×
+    (j : Judgement) × ((get_or es' 0 d).answer ≡ Some (Ok (Judged j))) × Judges h [] budget (verdict_of j.verdict) j.steps ×
     (j.verdict ≡ Serial → Shows h [] (means p) (take (count h) (numbers (get_or es' 1 d).buffer)))
 judge_then_show means numbers h budget p b₀ b₁ a₀ a₁ [] d some room long l = absurd (omega arith)
 judge_then_show means numbers h budget p b₀ b₁ a₀ a₁ (x ∷ []) d some room long l = absurd (omega arith)

@@ -1,5 +1,5 @@
 -- What show answers, and what it writes: the order that is placed at the node where the search succeeds.
-use Rattle.std.proofs.Common.{◌≡◌, ℕ, suc, ◌+◌, ◌<◌, ◌≤◌, Bool, true, false, ◌↔◌, List, [], ◌∷◌, ◌++◌, length, get_or, take, drop, set, Ok, Err, Result, sym, refl, ap, ◌∙◌, subst, inl, inr, arith}
+use Rattle.std.proofs.Common.{◌≡◌, ℕ, suc, ◌+◌, ◌<◌, ◌≤◌, Bool, true, false, cond, ◌↔◌, List, [], ◌∷◌, ◌++◌, length, get_or, take, drop, set, sym, refl, ap, ◌∙◌, subst, inl, inr, arith}
 use mathlib.Core.Logic.{∥∥₁_elim, ∥∥₁_map}
 use denote.Struct.Props.{props}
 use Rattle.std.proofs.lemmas.List.{append_assoc, length-take-le, take_more, drop_more, set_at, take_at, drop_at}
@@ -8,9 +8,8 @@ use Rattle.order.specs.History.{History, count, WellFormed, PairsOfEvents}
 use Rattle.order.specs.Before.{Before}
 use Rattle.order.specs.Search.{Search, Outcome, fails, succeeds}
 use Rattle.order.specs.Calls as order
-use Rattle.runs.specs.Runs as runs
 use Rattle.order.specs.Calls.{Preference, ShowAnswers, Shows, Answer, refused, show, shown, serial}
-use Rattle.runs.specs.Runs.{Step, SerialHeld, moved, standing}
+use Rattle.order.specs.Calls.{Step, SerialHeld, moved, standing}
 use Rattle.order.proofs.Tests.{is_true, true_is}
 use Rattle.order.proofs.Saturated.{before?, before_e, before_i}
 use Rattle.order.proofs.One.{one, no_mix}
@@ -21,17 +20,16 @@ use Rattle.placing.specs.Placing.{PlacesAll}
 use Rattle.saturation.specs.Recorded.{history_in}
 use Rattle.saturation.proofs.Records.{record_count, record_well, record_accepted}
 use Rattle.referee.specs.Numbers.{refusal_number}
-use Rattle.referee.specs.Verdicts.{is_serial}
+use Rattle.referee.specs.Verdicts.{verdict_of, says_serial, is_serial, is_open}
 use Rattle.referee.specs.Nodes.{AtNode}
 use Rattle.referee.specs.Meaning.{meaning, meaning_by, pairs_of, turn, TurnOn}
-use Rattle.referee.specs.Admitting.{admitted}
 use Rattle.sets.specs.declared.set.EventSet.{EventSet}
 use Rattle.referee.specs.declared.refusal.Refusal.{Refusal}
-use Rattle.referee.specs.declared.refusal.Refusal.TheVariants.{NotSerial}
+use Rattle.referee.specs.declared.refusal.Refusal.TheVariants.{NotSerial, Closed as Shut}
 use Rattle.referee.specs.declared.state.State.{State}
 use Rattle.referee.specs.declared.state.State.TheVariants.{Closed, Unjudged, Judged}
+use Rattle.referee.specs.declared.state.Verdict.{Verdict}
 use Rattle.referee.specs.declared.state.Verdict.TheVariants.{Serial, None, Spent}
-use Rattle.referee.specs.declared.calls.Action.TheVariants.{Show}
 use Rattle.referee.specs.declared.case.Case.{Case}
 use Rattle.referee.proofs.Cases.{inside_events}
 
@@ -72,9 +70,9 @@ module _ {W : ℕ} (h : History) (S : List (ℕ × ℕ)) (rows : List (EventSet 
   pub at_node : ∥ AtNode h S rows ∥₁ → AtNode h S rows
   at_node a = let e = ends h S well inside in at_end e.0 e.1 e.2 a
 
--- Where the verdict of a case is serial, what place returns begins with what show shows.
+-- Where the verdict of a case is serial, what place returns is what show shows.
 pub placed_shown : (c : Case) (f : Preference) (numbers : List ℕ) → is_serial c.state ≡ true → PlacesAll f (history_in c.recorded).events c.node numbers →
-    Shows (history_in c.recorded) (pairs_of c) f (take (count (history_in c.recorded)) numbers)
+    Shows (history_in c.recorded) (pairs_of c) f numbers
 placed_shown c f numbers serially places =
     let h = history_in c.recorded in
     let S = pairs_of c in
@@ -85,60 +83,57 @@ placed_shown c f numbers serially places =
     let p = placed_there h S a.node a.nodes well acc inside a.search f in
     subst (λ σ. Shows h S f σ) (sym (places h a.node p.0 refl a.exact p.1)) (placed_shows h S a.node a.nodes well acc inside a.search p.1)
 
--- A case admits show just where its verdict is serial.
-err_not_ok : {e : Refusal} {t : State} → ◌≡◌ {A = Result State Refusal} (Err e) (Ok t) → ⊥
-err_not_ok e = grind arith
-
-same_err : {d e : Refusal} → ◌≡◌ {A = Result State Refusal} (Err d) (Err e) → d ≡ e
-same_err e = cc
-
-pub admits_serial : (s t : State) → admitted s Show ≡ Ok t → is_serial s ≡ true
-admits_serial Closed t e = absurd (err_not_ok e)
-admits_serial Unjudged t e = absurd (err_not_ok e)
-admits_serial (Judged Serial n) t e = refl
-admits_serial (Judged None n) t e = absurd (err_not_ok e)
-admits_serial (Judged Spent n) t e = absurd (err_not_ok e)
-
 -- whether the verdict serial is held
-abbrev serial_held : runs.State → Bool
-serial_held runs.unjudged = false
+abbrev serial_held : order.State → Bool
+serial_held order.unjudged = false
 serial_held (standing serial n) = true
 serial_held (standing order.none n) = false
 serial_held (standing order.spent n) = false
 
+says_is : (v : Verdict) → says_serial v ≡ true → verdict_of v ≡ serial
+says_is Serial e = refl
+says_is None e = absurd (true≢false (sym e))
+says_is Spent e = absurd (true≢false (sym e))
+
+not_held : (v : Verdict) (n : ℕ) → says_serial v ≡ false → serial_held (standing (verdict_of v) n) ≡ false
+not_held Serial n e = absurd (true≢false e)
+not_held None n e = refl
+not_held Spent n e = refl
+
 module _ (h : History) (S : List (ℕ × ℕ)) (f : Preference) (buffer : List ℕ) where
   -- A case that is not serial refuses show with 28.
-  refuses : (m : runs.State) → serial_held m ≡ false → (e : Refusal) → NotSerial ≡ e → Step h (record { pairs = S; state = m }) (turn (show f buffer) (refused (refusal_number e)) buffer) (record { pairs = S; state = m })
-  refuses m n e k = subst (λ x. Step h (record { pairs = S; state = m }) (turn (show f buffer) (refused (refusal_number x)) buffer) (record { pairs = S; state = m })) k (record {
+  refuses : (m : order.State) → serial_held m ≡ false → (e : Refusal) → e ≡ NotSerial → Step h (record { pairs = S; state = m }) (turn (show f buffer) (refused (refusal_number e)) buffer) (record { pairs = S; state = m })
+  refuses m n e k = subst (λ x. Step h (record { pairs = S; state = m }) (turn (show f buffer) (refused (refusal_number x)) buffer) (record { pairs = S; state = m })) (sym k) (record {
     law = ShowAnswers.not_serial (λ p. true≢false (sym (ap serial_held p.1) ∙ n));
     pairs = refl;
     state = refl;
   })
 
-  pub not_admitted : (s : State) (e : Refusal) → admitted s Show ≡ Err e → TurnOn (turn (show f buffer) (refused (refusal_number e)) buffer) (meaning_by h S s) (meaning_by h S s)
-  not_admitted Closed e k = (ap (λ x. refused (refusal_number x)) (sym (same_err k)), refl, refl)
-  not_admitted Unjudged e k = (_, refuses runs.unjudged refl e (same_err k), refl)
-  not_admitted (Judged Serial n) e k = absurd (err_not_ok (sym k))
-  not_admitted (Judged None n) e k = (_, refuses (standing order.none n) refl e (same_err k), refl)
-  not_admitted (Judged Spent n) e k = (_, refuses (standing order.spent n) refl e (same_err k), refl)
+  pub not_serial_turn : (s : State) (e : Refusal) → is_serial s ≡ false → e ≡ cond (is_open s) NotSerial Shut → TurnOn (turn (show f buffer) (refused (refusal_number e)) buffer) (meaning_by h S s) (meaning_by h S s)
+  not_serial_turn Closed e n k = (ap (λ x. refused (refusal_number x)) k, refl, refl)
+  not_serial_turn Unjudged e n k = (_, refuses order.unjudged refl e k, refl)
+  not_serial_turn (Judged j) e n k = (_, refuses (standing (verdict_of j.verdict) j.steps) (not_held j.verdict j.steps n) e k, refl)
 
   -- A turn of show where the verdict is serial.
-  pub serial_turn : (s : State) (a : Answer) (after : List ℕ) → is_serial s ≡ true → ((m : runs.State) → m ≡ moved m a) →
+  pub serial_turn : (s : State) (a : Answer) (after : List ℕ) → is_serial s ≡ true → ((m : order.State) → m ≡ moved m a) →
       ((P : Type 0) → P → ShowAnswers h S P f buffer a after) → TurnOn (turn (show f buffer) a after) (meaning_by h S s) (meaning_by h S s)
   serial_turn Closed a after k stays answers = absurd (true≢false (sym k))
   serial_turn Unjudged a after k stays answers = absurd (true≢false (sym k))
-  serial_turn (Judged Serial n) a after k stays answers = (_, record { law = answers (SerialHeld (standing serial n)) (n, refl); pairs = refl; state = stays (standing serial n) }, refl)
-  serial_turn (Judged None n) a after k stays answers = absurd (true≢false (sym k))
-  serial_turn (Judged Spent n) a after k stays answers = absurd (true≢false (sym k))
+  serial_turn (Judged j) a after k stays answers =
+      let m : order.State = standing (verdict_of j.verdict) j.steps in
+      (_, record { law = answers (SerialHeld m) (j.steps, ap (λ v. standing v j.steps) (says_is j.verdict k)); pairs = refl; state = stays m }, refl)
 
 -- The answer of show where it is neither refused for its verdict nor for its buffer.
 pub shows_placed : (c : Case) (f : Preference) (numbers buffer after : List ℕ) (n : ℕ) → is_serial c.state ≡ true → PlacesAll f (history_in c.recorded).events c.node numbers →
-    n ≡ c.recorded.count → n ≤ length numbers → n ≤ length buffer → after ≡ take n numbers ++ drop n buffer →
+    n ≡ count (history_in c.recorded) → n ≤ length buffer → after ≡ numbers ++ drop (length numbers) buffer →
     TurnOn (turn (show f buffer) (shown n) after) (meaning c) (meaning c)
-shows_placed c f numbers buffer after n serially places many long room is =
+shows_placed c f numbers buffer after n serially places many room is =
     let h = history_in c.recorded in
     let e : n ≡ count h = many ∙ sym (record_count c.recorded) in
-    let shows : Shows h (pairs_of c) f (take n after) = rw (is, take_at (take n numbers) (drop n buffer) n (length-take-le n numbers long), e) (placed_shown c f numbers serially places) in
-    let rest : drop n after ≡ drop n buffer = ap (drop n) is ∙ drop_at (take n numbers) (drop n buffer) n (length-take-le n numbers long) in
+    let shows = placed_shown c f numbers serially places in
+    let long : length numbers ≡ n = shows.fits.order.long ∙ sym e in
+    let front : take n after ≡ numbers = ap (take n) is ∙ take_at numbers (drop (length numbers) buffer) n long in
+    let rest : drop n after ≡ drop n buffer = ap (drop n) is ∙ drop_at numbers (drop (length numbers) buffer) n long ∙ ap (λ k. drop k buffer) long in
     serial_turn h (pairs_of c) f buffer c.state (shown n) after serially (λ m. refl) (λ P p.
-    subst (λ k. k ≤ length buffer → Shows h (pairs_of c) f (take k after) → drop k after ≡ drop k buffer → ShowAnswers h (pairs_of c) P f buffer (shown k) after) (sym e) (λ l s d. ShowAnswers.shows p l s d) room shows rest)
+    subst (λ k. k ≤ length buffer → Shows h (pairs_of c) f (take k after) → drop k after ≡ drop k buffer → ShowAnswers h (pairs_of c) P f buffer (shown k) after) (sym e) (λ l s d. ShowAnswers.shows p l s d) room
+    (subst (λ σ. Shows h (pairs_of c) f σ) (sym front) shows) rest)

@@ -1,41 +1,31 @@
 -- How an accepted call makes a turn on a case, and what a case keeps of its invariants.
-use Rattle.std.proofs.Common.{◌≡◌, ℕ, suc, ◌+◌, ◌-◌, ◌<◌, ◌≤◌, Bool, true, false, cond, not, ◌&&◌, eqb, leb, List, [], ◌∷◌, ◌++◌, length, get_or, take, Ok, Result, sym, refl, ap, ◌∙◌, subst, inl, inr, true≢false, arith, length-take-le, get_or-take, eq-eqb, ne_eqb}
+use Rattle.std.proofs.Common.{◌≡◌, ℕ, suc, ◌-◌, ◌<◌, ◌≤◌, Bool, true, false, cond, not, ◌&&◌, eqb, leb, List, [], ◌∷◌, ◌++◌, length, get_or, take, Some, slice_get, sym, refl, ap, ◌∙◌, subst, inl, inr, true≢false, arith, eq-eqb, ne_eqb}
 use mathlib.Core.List.Memᴰ
 use mathlib.Core.List.{Memᴰ}
 use Rattle.history.specs.declared.event.Event.{Event}
-use Rattle.std.proofs.lemmas.List.{take_more, take-take}
+use Rattle.std.proofs.lemmas.Option.{get_or_from_slice_get, slice_get_within}
 use Rattle.order.specs.History.{History, at, star_of}
 use Rattle.order.specs.Calls as order
-use Rattle.runs.specs.Runs as runs
 use Rattle.order.specs.Calls.{Turn, accepts, stipulate, lift, judge, stipulate_answer, lift_answer, stipulated, lifted, refused, entered, is_number, JudgeAnswers, Judges}
-use Rattle.runs.specs.Runs.{Held, Step, unjudged, standing, SerialHeld}
+use Rattle.order.specs.Calls.{Held, Step, unjudged, standing, SerialHeld}
 use Rattle.order.specs.Opening.{is_write}
 use Rattle.saturation.specs.Rooting.{PairsUpTo}
 use Rattle.referee.specs.Meaning.{holds, meaning_by, turn, TurnOn}
-use Rattle.referee.specs.Admitting.{admitted}
-use Rattle.referee.specs.Verdicts.{verdict_of, is_serial}
+use Rattle.referee.specs.Verdicts.{verdict_of, is_serial, is_open}
 use Rattle.referee.specs.declared.state.State.{State}
 use Rattle.referee.specs.declared.state.State.TheVariants.{Closed, Unjudged, Judged}
-use Rattle.referee.specs.declared.state.Verdict.{Verdict}
-use Rattle.referee.specs.declared.calls.Action.TheVariants.{Stipulate, Lift, Judge}
-use Rattle.referee.specs.declared.refusal.Refusal.{Refusal}
+use Rattle.referee.specs.declared.state.Judgement.{Judgement}
 
 -- The state as the rules speak of it.
-abbrev pub state_of : State → runs.State
+abbrev pub state_of : State → order.State
 state_of Closed = unjudged
 state_of Unjudged = unjudged
-state_of (Judged v n) = standing (verdict_of v) n
-
--- The case is open.
-abbrev pub is_open : State → Bool
-is_open Closed = false
-is_open Unjudged = true
-is_open (Judged v n) = true
+state_of (Judged j) = standing (verdict_of j.verdict) j.steps
 
 pub means_open : (h : History) (S : List (ℕ × ℕ)) (s : State) → is_open s ≡ true → meaning_by h S s ≡ holds h (record { pairs = S; state = state_of s })
 means_open h S Closed e = absurd (true≢false (sym e))
 means_open h S Unjudged e = refl
-means_open h S (Judged v n) e = refl
+means_open h S (Judged j) e = refl
 
 -- A step of what an open case holds is a turn on it.
 pub turn_on : (h : History) (S S' : List (ℕ × ℕ)) (s s' : State) (t : Turn) → is_open s ≡ true → is_open s' ≡ true →
@@ -44,56 +34,45 @@ pub turn_on : (h : History) (S S' : List (ℕ × ℕ)) (s s' : State) (t : Turn)
 turn_on h S S' s s' t o o' k =
     subst (λ m. TurnOn t m (meaning_by h S' s')) (sym (means_open h S s o)) (record { pairs = S'; state = state_of s' }, k, means_open h S' s' o')
 
--- What is admitted is admitted by an open case; a stipulation that is made or lifted leaves it unjudged.
-pub admits_stipulate : (s s' : State) → ◌≡◌ {A = Result State Refusal} (Ok s') (admitted s Stipulate) → (is_open s ≡ true) × (s' ≡ Unjudged)
-admits_stipulate Closed s' e = absurd (let z : ◌≡◌ {A = ℕ} 0 1 = cc in omega arith)
-admits_stipulate Unjudged s' e = (refl, cc)
-admits_stipulate (Judged v n) s' e = (refl, cc)
-
-pub admits_lift : (s s' : State) → ◌≡◌ {A = Result State Refusal} (Ok s') (admitted s Lift) → (is_open s ≡ true) × (s' ≡ Unjudged)
-admits_lift Closed s' e = absurd (let z : ◌≡◌ {A = ℕ} 0 1 = cc in omega arith)
-admits_lift Unjudged s' e = (refl, cc)
-admits_lift (Judged v n) s' e = (refl, cc)
-
-pub admits_judge : (s s' : State) → ◌≡◌ {A = Result State Refusal} (Ok s') (admitted s Judge) → is_open s ≡ true
-admits_judge Closed s' e = absurd (let z : ◌≡◌ {A = ℕ} 0 1 = cc in omega arith)
-admits_judge Unjudged s' e = refl
-admits_judge (Judged v n) s' e = refl
-
 -- What stipulate accepts leaves room, and is a pair of events.
 pub stipulate_room : (h : History) (S : List (ℕ × ℕ)) (a b : ℕ) → stipulated ≡ stipulate_answer h S a b → length S < 64
 stipulate_room h S a b e = grind arith
 
--- An accepted stipulate is a turn.
-pub stipulate_turn : (h : History) (S S' : List (ℕ × ℕ)) (s s' : State) (a b : ℕ) → ◌≡◌ {A = Result State Refusal} (Ok s') (admitted s Stipulate) →
-    stipulated ≡ stipulate_answer h S a b → S' ≡ S ++ ((a, b) ∷ []) →
-    TurnOn (turn (stipulate a b) stipulated []) (meaning_by h S s) (meaning_by h S' s')
-stipulate_turn h S S' s s' a b e q p =
-    let d = admits_stipulate s s' e in
-    turn_on h S S' s s' (turn (stipulate a b) stipulated []) d.0 (ap is_open d.1) (record {
+-- An accepted stipulate is a turn; it leaves the case unjudged.
+pub stipulate_turn : (h : History) (S S' : List (ℕ × ℕ)) (s : State) (a b : ℕ) → is_open s ≡ true → stipulated ≡ stipulate_answer h S a b → S' ≡ S ++ ((a, b) ∷ []) →
+    TurnOn (turn (stipulate a b) stipulated []) (meaning_by h S s) (meaning_by h S' Unjudged)
+stipulate_turn h S S' s a b o q p =
+    turn_on h S S' s Unjudged (turn (stipulate a b) stipulated []) o refl (record {
       law = (q, refl);
       pairs = p ∙ ap (λ z. cond (accepts z) (S ++ ((a, b) ∷ [])) S) q;
-      state = ap state_of d.1;
+      state = refl;
     })
 
--- An accepted lift is a turn.
-pub lift_turn : (h : History) (S S' : List (ℕ × ℕ)) (s s' : State) (q : ℕ × ℕ) → ◌≡◌ {A = Result State Refusal} (Ok s') (admitted s Lift) →
-    lifted q.0 q.1 ≡ lift_answer S → S' ≡ take (length S - 1) S →
-    TurnOn (turn lift (lifted q.0 q.1) []) (meaning_by h S s) (meaning_by h S' s')
-lift_turn h S S' s s' q e l p =
-    let d = admits_lift s s' e in
-    turn_on h S S' s s' (turn lift (lifted q.0 q.1) []) d.0 (ap is_open d.1) (record {
+-- What lift answers where the pair q is the latest.
+latest_pair : (S : List (ℕ × ℕ)) (q : ℕ × ℕ) → Some q ≡ slice_get S (length S - 1) → lifted q.0 q.1 ≡ lift_answer S
+latest_pair S q e =
+    let inside = slice_get_within S (length S - 1) q (sym e) in
+    let is : get_or S (length S - 1) (0, 0) ≡ q = get_or_from_slice_get S (length S - 1) q (0, 0) (sym e) in
+    ap (λ (z : ℕ × ℕ). lifted z.0 z.1) (sym is)
+    ∙ sym (ap (λ b. cond b (refused 26) (lifted (get_or S (length S - 1) (0, 0)).0 (get_or S (length S - 1) (0, 0)).1)) (ne_eqb (length S) 0 (λ z. omega (arith, z))))
+
+-- An accepted lift is a turn; it leaves the case unjudged.
+pub lift_turn : (h : History) (S S' : List (ℕ × ℕ)) (s : State) (q : ℕ × ℕ) → is_open s ≡ true → Some q ≡ slice_get S (length S - 1) → S' ≡ take (length S - 1) S →
+    TurnOn (turn lift (lifted q.0 q.1) []) (meaning_by h S s) (meaning_by h S' Unjudged)
+lift_turn h S S' s q o e p =
+    let l = latest_pair S q e in
+    turn_on h S S' s Unjudged (turn lift (lifted q.0 q.1) []) o refl (record {
       law = (l, refl);
       pairs = p ∙ ap (λ z. cond (accepts z) (take (length S - 1) S) S) l;
-      state = ap state_of d.1;
+      state = refl;
     })
 
 -- A judge that finds something is a turn.
-pub judge_turn : (h : History) (S : List (ℕ × ℕ)) (s : State) (budget : ℕ) (v : Verdict) (n : ℕ) → is_open s ≡ true → 1 ≤ budget →
-    Judges h S budget (verdict_of v) n →
-    TurnOn (turn (judge budget) (order.judged (verdict_of v) n) []) (meaning_by h S s) (meaning_by h S (Judged v n))
-judge_turn h S s budget v n o l j =
-    turn_on h S S s (Judged v n) (turn (judge budget) (order.judged (verdict_of v) n) []) o refl (record { law = (JudgeAnswers.judges l j, refl); pairs = refl; state = refl })
+pub judge_turn : (h : History) (S : List (ℕ × ℕ)) (s : State) (budget : ℕ) (j : Judgement) → is_open s ≡ true → 1 ≤ budget →
+    Judges h S budget (verdict_of j.verdict) j.steps →
+    TurnOn (turn (judge budget) (order.judged (verdict_of j.verdict) j.steps) []) (meaning_by h S s) (meaning_by h S (Judged j))
+judge_turn h S s budget j o l d =
+    turn_on h S S s (Judged j) (turn (judge budget) (order.judged (verdict_of j.verdict) j.steps) []) o refl (record { law = (JudgeAnswers.judges l d, refl); pairs = refl; state = refl })
 
 -- One more pair of events among pairs of events.
 pub one_more_pair : (n : ℕ) (S : List (ℕ × ℕ)) (a b : ℕ) → (1 ≤ a) × (a ≤ n) × (1 ≤ b) × (b ≤ n) → PairsUpTo n S → PairsUpTo n (S ++ ((a, b) ∷ []))
@@ -106,8 +85,8 @@ one_more_pair n S a b here r c d m = elim (Memᴰ.append_cases S m) [
 ]
 
 -- Fewer pairs.
-pub fewer_pairs : (n k : ℕ) (S : List (ℕ × ℕ)) → k < length S → PairsUpTo n (take (k + 1) S) → PairsUpTo n (take k S)
-fewer_pairs n k S l r a b m = r a b (subst (λ z. Memᴰ (a, b) z) (sym (take_more S k (0, 0) l)) (Memᴰ.append_left (get_or S k (0, 0) ∷ []) m))
+pub fewer_pairs : (n : ℕ) (S T U : List (ℕ × ℕ)) → S ≡ T ++ U → PairsUpTo n S → PairsUpTo n T
+fewer_pairs n S T U e r a b m = r a b (subst (λ z. Memᴰ (a, b) z) (sym e) (Memᴰ.append_left U m))
 
 -- What does not refuse goes on to the rest.
 passes : (b : Bool) (n : ℕ) (r : order.Answer) → b ≡ false → cond b (refused n) r ≡ r
@@ -133,18 +112,6 @@ pair_answer h S a b x y na nb ex ey kx ky st ne =
 -- An unjudged case has no verdict to show.
 pub unjudged_shows_nothing : {X : Type 0} {s : State} → s ≡ Unjudged → is_serial s ≡ true → X
 unjudged_shows_nothing e t = absurd (true≢false (sym t ∙ ap is_serial e))
-
--- What lift answers where n pairs stand, and what then stands.
-pub latest_pair : (S : List (ℕ × ℕ)) (n : ℕ) → 0 < n → n ≤ length S →
-    lifted (get_or S (n - 1) (0, 0)).0 (get_or S (n - 1) (0, 0)).1 ≡ lift_answer (take n S)
-latest_pair S n l u =
-    let e : length (take n S) ≡ n = length-take-le n S u in
-    let q : get_or (take n S) (length (take n S) - 1) (0, 0) ≡ get_or S (n - 1) (0, 0) = ap (λ k. get_or (take n S) (k - 1) (0, 0)) e ∙ get_or-take n S (n - 1) (0, 0) (omega arith) in
-    ap (λ (z : ℕ × ℕ). lifted z.0 z.1) (sym q)
-    ∙ sym (ap (λ b. cond b (refused 26) (lifted (get_or (take n S) (length (take n S) - 1) (0, 0)).0 (get_or (take n S) (length (take n S) - 1) (0, 0)).1)) (ne_eqb (length (take n S)) 0 (λ z. omega (arith, z))))
-
-pub all_but_latest : (S : List (ℕ × ℕ)) (n : ℕ) → n ≤ length S → take (n - 1) S ≡ take (length (take n S) - 1) (take n S)
-all_but_latest S n u = sym (ap (λ k. take (k - 1) (take n S)) (length-take-le n S u) ∙ take-take (n - 1) n S (omega arith))
 
 -- A judge without a budget is refused.
 pub no_budget_turn : (h : History) (S : List (ℕ × ℕ)) (s : State) (budget : ℕ) → is_open s ≡ true → budget ≡ 0 →

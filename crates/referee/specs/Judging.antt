@@ -14,5 +14,4 @@ pub record Judged (budget : ℕ) (o p : Case) (j : Judgement) : Type 0 where
   pub finds : Judges (history_in o.recorded) (pairs_of o) budget (verdict_of j.verdict) j.steps
   pub history : p.recorded ≡ o.recorded
   pub pairs : p.stipulations ≡ o.stipulations
-  pub many : p.standing ≡ o.standing
   pub node : says_serial j.verdict ≡ true → AtNode (history_in o.recorded) (pairs_of o) p.node

@@ -1,8 +1,8 @@
 pub mod Numbers
 pub mod Verdicts
+pub mod Words
 pub mod Nodes
 pub mod Meaning
-pub mod Admitting
 pub mod Opens
 pub mod Judging
 pub mod Preferring

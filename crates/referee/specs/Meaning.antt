@@ -1,8 +1,8 @@
 -- What a case means, and what a call on it makes of that.
-use Rattle.std.specs.Prelude.{◌≡◌, ℕ, List, [], take, Ok, Err, Result}
+use Rattle.std.specs.Prelude.{◌≡◌, ℕ, List, [], Ok, Err, Result}
 use Rattle.order.specs.History.{History}
 use Rattle.order.specs.Calls.{Turn, Call, Answer, refused, stipulate, lift, judge, show}
-use Rattle.runs.specs.Runs.{Held, Step, unjudged, standing}
+use Rattle.order.specs.Calls.{Held, Step, unjudged, standing}
 use Rattle.saturation.specs.Recorded.{history_in}
 use Rattle.referee.specs.Numbers.{refusal_number}
 use Rattle.referee.specs.Verdicts.{verdict_of}
@@ -19,11 +19,11 @@ pub data Meaning : Type 0 where
 abbrev pub meaning_by : History → List (ℕ × ℕ) → State → Meaning
 meaning_by h S Closed = closed
 meaning_by h S Unjudged = holds h (record { pairs = S; state = unjudged })
-meaning_by h S (Judged v steps) = holds h (record { pairs = S; state = standing (verdict_of v) steps })
+meaning_by h S (Judged j) = holds h (record { pairs = S; state = standing (verdict_of j.verdict) j.steps })
 
 -- The stipulations that stand.
 abbrev pub pairs_of : Case → List (ℕ × ℕ)
-pairs_of c = take c.standing c.stipulations
+pairs_of c = c.stipulations.items
 
 -- What a case means.
 abbrev pub meaning : Case → Meaning

@@ -3,7 +3,7 @@ use Rattle.std.specs.Prelude.{◌≡◌, ℕ, Bool, List, Ok, Err, Result}
 use Rattle.history.specs.declared.event.Event.{Event}
 use Rattle.order.specs.History.{history_of}
 use Rattle.order.specs.Opening.{opening, accepted, fault}
-use Rattle.runs.specs.Runs.{opened}
+use Rattle.order.specs.Calls.{opened}
 use Rattle.opening.specs.declared.fault.HistoryFault.{HistoryFault}
 use Rattle.opening.specs.Faults.{fault_number, fault_place}
 use Rattle.referee.specs.Meaning.{meaning, holds}

@@ -4,7 +4,7 @@ use Rattle.history.specs.declared.event.Event.{Event}
 use Rattle.order.specs.History.{history_of}
 use Rattle.order.specs.Opening.{opening, accepted, fault}
 use Rattle.order.specs.Calls.{Preference}
-use Rattle.runs.specs.Runs.{Held, LawOverRuns, Leaves}
+use Rattle.order.specs.Calls.{Held, LawOverRuns, Leaves}
 use Rattle.opening.specs.declared.fault.HistoryFault.{HistoryFault}
 use Rattle.opening.specs.Faults.{fault_number, fault_place}
 use Rattle.referee.specs.Meaning.{meaning, holds}

@@ -21,4 +21,10 @@ says_serial Spent = false
 abbrev pub is_serial : State → Bool
 is_serial Closed = false
 is_serial Unjudged = false
-is_serial (Judged v steps) = says_serial v
+is_serial (Judged j) = says_serial j.verdict
+
+-- The case is not closed.
+abbrev pub is_open : State → Bool
+is_open Closed = false
+is_open Unjudged = true
+is_open (Judged j) = true

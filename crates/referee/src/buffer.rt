@@ -1,6 +1,7 @@
 //! Where show writes its numbers.
 ghost use Rattle.std.specs.Prelude.{◌≡◌, ℕ, List, length, slice_set};
 
+// a trait of our own: std's `AsMut` says nothing of what it lends, and `AsSlice` lends for reading only
 /// A buffer of numbers, of whatever length; an implementation says by `numbers` what it holds.
 pub trait Buffer {
     ghost numbers: { Self → List ℕ };

@@ -1,23 +1,14 @@
 //! Stipulations: made and lifted.
-ghost use Rattle.std.specs.Prelude.{◌≡◌, true, [], is_err};
+ghost use Rattle.std.specs.Prelude.{◌≡◌, true, false, [], cond, is_err, OnOk, IfErr};
 ghost use Rattle.order.specs.Calls.{stipulate as stipulating, stipulated, lift as lifting, lifted, stipulate_answer, is_number};
 ghost use Rattle.saturation.specs.Recorded.{history_in};
-ghost use Rattle.referee.specs.Admitting.{admitted};
+ghost use Rattle.referee.specs.Verdicts.{is_open, is_serial};
 ghost use Rattle.referee.specs.Meaning.{meaning, reply, turn, TurnOn, pairs_of};
 
 use crate::case::Case;
 use crate::refusal::Refusal;
-use crate::state::{State, Verdict};
+use crate::state::{Judgement, State, Verdict};
 use history::WRITE;
-
-/// The calls, by what they do to the state of a case.
-#[derive(Clone, Copy)]
-pub(crate) enum Action {
-    Stipulate,
-    Lift,
-    Judge,
-    Show,
-}
 
 impl Case {
     /// Has the write `first` come earlier than the write `second`, two writes of one star.
@@ -25,11 +16,10 @@ impl Case {
         ensures law { TurnOn (turn (stipulating first second) (reply (λ _. stipulated) result) []) (meaning self.old) (meaning self.new) }
         ensures same { is_err result ≡ true → self.new ≡ self.old }
     {
-        let state = self.admit(Action::Stipulate)?;
+        self.check_open()?;
         self.check_pair(first, second)?;
-        self.stipulations[self.standing] = (first, second);
-        self.standing += 1;
-        self.state = state;
+        self.state = State::Unjudged;
+        self.stipulations.push((first, second));
         Ok(())
     }
 
@@ -51,7 +41,7 @@ impl Case {
         if first == second {
             return Err(Refusal::SameWrite);
         }
-        if self.standing == 64 {
+        if self.stipulations.is_full() {
             return Err(Refusal::Full);
         }
         Ok(())
@@ -69,26 +59,37 @@ impl Case {
         ensures law { TurnOn (turn lifting (reply (λ p. lifted p.0 p.1) result) []) (meaning self.old) (meaning self.new) }
         ensures same { is_err result ≡ true → self.new ≡ self.old }
     {
-        let state = self.admit(Action::Lift)?;
-        if self.standing == 0 {
-            return Err(Refusal::NoneStands);
-        }
-        self.standing -= 1;
-        self.state = state;
-        Ok(self.stipulations[self.standing])
+        self.check_open()?;
+        let pair = self.stipulations.pop().ok_or(Refusal::NoneStands)?;
+        self.state = State::Unjudged;
+        Ok(pair)
     }
 
-    /// The state after a call, unless the state of the case refuses it: closed, a case refuses every call; a
-    /// stipulation made or lifted ends the verdict; judge and show leave it, and show wants it to be serial.
-    pub(crate) fn admit(&self, action: Action) -> Result<State, Refusal>
-        ensures { result ≡ admitted self.now.state action }
+    /// Refuses where the case is closed.
+    pub(crate) fn check_open(&self) -> Result<(), Refusal>
+        ensures open { OnOk result (is_open self.now.state ≡ true) }
+        ensures closed { IfErr result (λ e. (self.now.state ≡ State.Closed) × (e ≡ Refusal.Closed)) }
     {
-        match (self.state, action) {
-            (State::Closed, _) => Err(Refusal::Closed),
-            (_, Action::Stipulate | Action::Lift) => Ok(State::Unjudged),
-            (State::Judged(Verdict::Serial, _), Action::Show) => Ok(self.state),
-            (_, Action::Show) => Err(Refusal::NotSerial),
-            (_, Action::Judge) => Ok(self.state),
+        match self.state {
+            State::Closed => Err(Refusal::Closed),
+            _ => Ok(()),
+        }
+    }
+
+    /// Refuses where the case is closed, or its verdict is not serial.
+    pub(crate) fn check_serial(&self) -> Result<(), Refusal>
+        ensures serial { OnOk result (is_serial self.now.state ≡ true) }
+        ensures not_serial { IfErr result (λ e. (is_serial self.now.state ≡ false) × (e ≡ cond (is_open self.now.state) Refusal.NotSerial Refusal.Closed)) }
+    {
+        self.check_open()?;
+        match self.state {
+            State::Judged(
+                Judgement {
+                    verdict: Verdict::Serial,
+                    ..
+                },
+            ) => Ok(()),
+            _ => Err(Refusal::NotSerial),
         }
     }
 }

@@ -12,12 +12,9 @@ pub enum Call<P> {
     Show(P),
 }
 
-/// What a call answers.
+/// What a call that is not refused answers.
 #[derive(Clone, Copy, PartialEq, Eq, Debug)]
 pub enum Answer {
-    /// The call was not made.
-    Unasked,
-    Refused(Refusal),
     Stipulated,
     /// The two numbers of the stipulation that was lifted.
     Lifted(u16, u16),
@@ -26,10 +23,10 @@ pub enum Answer {
     Shown(u16),
 }
 
-/// A call with a buffer of its own, which show alone writes to, and room for its answer.
+/// A call with a buffer of its own, which show alone writes to, and its answer, once it is made.
 #[derive(Drop)]
 pub struct Entry<P, B> {
     pub call: Call<P>,
     pub buffer: B,
-    pub answer: Answer,
+    pub answer: Option<Result<Answer, Refusal>>,
 }

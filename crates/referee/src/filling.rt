@@ -5,7 +5,8 @@ ghost use Rattle.referee.specs.Opens.{Opens};
 
 use crate::case::Case;
 use crate::state::State;
-use history::{Event, Rule, Source, Strict};
+use arrayvec::ArrayVec;
+use history::{Rule, Source, Strict};
 use opening::{HistoryFault, check_source};
 use saturation::Recorded;
 use sets::EventSet;
@@ -15,17 +16,10 @@ impl Case {
     pub fn new() -> Case
         ensures { meaning result ≡ closed }
     {
-        let none = Event {
-            kind: 0,
-            session: 0,
-            star: 0,
-            revision: 0,
-        };
         Case {
             state: State::Closed,
-            recorded: Recorded::new([none; 256], 0, &Strict),
-            stipulations: [(0, 0); 64],
-            standing: 0,
+            recorded: Recorded::new(ArrayVec::new(), &Strict),
+            stipulations: ArrayVec::new(),
             node: [EventSet::new(); 256],
         }
     }
@@ -36,9 +30,9 @@ impl Case {
         ensures opens { Opens (S.Source.events source.now) (R.Rule.keeps rule.now) self.new result }
         ensures same { is_err result ≡ true → self.new ≡ self.old }
     {
-        let checked = check_source(source)?;
-        self.recorded = Recorded::new(checked.events, checked.count, rule);
-        self.standing = 0;
+        let events = check_source(source)?;
+        self.recorded = Recorded::new(events, rule);
+        self.stipulations.clear();
         self.state = State::Unjudged;
         Ok(())
     }

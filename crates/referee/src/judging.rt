@@ -6,11 +6,10 @@ ghost use Rattle.referee.specs.Meaning.{meaning, reply, turn, TurnOn, pairs_of};
 ghost use Rattle.referee.specs.Verdicts.{verdict_of};
 ghost use Rattle.referee.specs.Judging.{Judged};
 
-use crate::calls::Action;
 use crate::case::Case;
 use crate::refusal::Refusal;
 use crate::state::{Judgement, State, Verdict};
-use tree_search::{Progress, Search};
+use search::{Progress, Search};
 
 impl Case {
     /// Says whether a fitting order exists, if that takes no more steps than the budget; the verdict stays with the case.
@@ -18,12 +17,12 @@ impl Case {
         ensures law { TurnOn (turn (judging budget) (reply (λ j. judged (verdict_of j.verdict) j.steps) result) []) (meaning self.old) (meaning self.new) }
         ensures same { is_err result ≡ true → self.new ≡ self.old }
     {
-        let _ = self.admit(Action::Judge)?;
+        self.check_open()?;
         if budget == 0 {
             return Err(Refusal::NoBudget);
         }
         let found = self.decide(budget);
-        self.state = State::Judged(found.verdict, found.steps);
+        self.state = State::Judged(found);
         Ok(found)
     }
 
@@ -32,9 +31,8 @@ impl Case {
         requires { 0 < budget }
         ensures { Judged budget self.old self.new result }
     {
-        let pairs = self.stipulations;
         let mut search: Search<256, 4, 32640> = Search::idle();
-        search.restart(&self.recorded, &pairs[0..self.standing]);
+        search.restart(self.stipulated());
         let verdict = match search.run(budget) {
             Progress::Succeeded => Verdict::Serial,
             Progress::Failed => Verdict::None,

@@ -1,40 +1,39 @@
 //! Runs of calls.
-ghost use Rattle.std.specs.Prelude.{◌≡◌};
+ghost use Rattle.std.specs.Prelude.{◌≡◌, false};
 ghost use Rattle.referee.specs.Meaning.{meaning, TurnOn};
 ghost use Rattle.referee.specs.Preferring.{as_preference};
-ghost use Rattle.referee.specs.Entries.{turn_of, Stays};
+ghost use Rattle.referee.specs.Entries.{turn_by, wrote};
 ghost use Rattle.referee.specs.Runs.{RunLaw};
 
 use crate::buffer::Buffer;
 use crate::case::Case;
 use crate::entry::{Answer, Call, Entry};
+use crate::refusal::Refusal;
 use history::{Preference, Rule, Source};
 use opening::HistoryFault;
 
 impl Case {
-    /// Makes the call of an entry, and leaves its answer there.
-    fn answer<P: Preference, B: Buffer>(&mut self, entry: &mut Entry<P, B>)
-        ensures law { TurnOn (turn_of (as_preference P.Preference.prefers P.Preference.lawful) B.Buffer.numbers entry.old entry.new) (meaning self.old) (meaning self.new) }
-        ensures stays { Stays entry.old entry.new }
+    /// Makes a call, and answers it; a show writes to the buffer.
+    fn make<P: Preference, B: Buffer>(
+        &mut self,
+        call: &Call<P>,
+        buffer: &mut B,
+    ) -> Result<Answer, Refusal>
+        ensures law { TurnOn (turn_by (as_preference P.Preference.prefers P.Preference.lawful) call.now (B.Buffer.numbers buffer.old) (Some result) (B.Buffer.numbers buffer.new)) (meaning self.old) (meaning self.new) }
+        ensures stays { wrote (Some result) ≡ false → buffer.new ≡ buffer.old }
     {
-        entry.answer = match &entry.call {
-            Call::Stipulate(first, second) => match self.stipulate(*first, *second) {
-                Ok(()) => Answer::Stipulated,
-                Err(e) => Answer::Refused(e),
-            },
-            Call::Lift => match self.lift() {
-                Ok((first, second)) => Answer::Lifted(first, second),
-                Err(e) => Answer::Refused(e),
-            },
-            Call::Judge(budget) => match self.judge(*budget) {
-                Ok(found) => Answer::Judged(found),
-                Err(e) => Answer::Refused(e),
-            },
-            Call::Show(preference) => match self.show(preference, &mut entry.buffer) {
-                Ok(count) => Answer::Shown(count),
-                Err(e) => Answer::Refused(e),
-            },
-        };
+        match call {
+            Call::Stipulate(first, second) => {
+                self.stipulate(*first, *second)?;
+                Ok(Answer::Stipulated)
+            }
+            Call::Lift => {
+                let (first, second) = self.lift()?;
+                Ok(Answer::Lifted(first, second))
+            }
+            Call::Judge(budget) => Ok(Answer::Judged(self.judge(*budget)?)),
+            Call::Show(preference) => Ok(Answer::Shown(self.show(preference, buffer)?)),
+        }
     }
 
     /// Opens the case, and then makes each call in turn on the case that the one before left.
@@ -51,7 +50,7 @@ impl Case {
     {
         self.open(source, rule)?;
         for entry in entries.iter_mut() {
-            self.answer(entry);
+            entry.answer = Some(self.make(&entry.call, &mut entry.buffer));
         }
         Ok(())
     }

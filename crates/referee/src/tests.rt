@@ -5,7 +5,7 @@ fn entry(call: Call<ByNumber>) -> Entry<ByNumber, [u16; 3]> {
     Entry {
         call,
         buffer: [7; 3],
-        answer: Answer::Unasked,
+        answer: None,
     }
 }
 
@@ -42,18 +42,18 @@ fn a_run_of_calls(rt: HostRuntime) {
     assert!(rt; case.run(&source, &Strict, &mut entries).is_ok());
     assert_eq!(rt;
         entries[0].answer,
-        Answer::Judged(Judgement {
+        Some(Ok(Answer::Judged(Judgement {
             verdict: Verdict::Spent,
             steps: 1,
-        })
+        })))
     );
-    assert_eq!(rt; entries[1].answer, Answer::Refused(Refusal::NotSerial));
-    assert_eq!(rt; entries[3].answer, Answer::Shown(2));
+    assert_eq!(rt; entries[1].answer, Some(Err(Refusal::NotSerial)));
+    assert_eq!(rt; entries[3].answer, Some(Ok(Answer::Shown(2))));
     assert!(rt; entries[3].buffer == [1, 2, 7]);
-    assert_eq!(rt; entries[5].answer, Answer::Refused(Refusal::NotSerial));
+    assert_eq!(rt; entries[5].answer, Some(Err(Refusal::NotSerial)));
     assert!(rt; entries[7].buffer == [2, 1, 7]);
-    assert_eq!(rt; entries[8].answer, Answer::Lifted(2, 1));
-    assert_eq!(rt; entries[9].answer, Answer::Refused(Refusal::NoneStands));
+    assert_eq!(rt; entries[8].answer, Some(Ok(Answer::Lifted(2, 1))));
+    assert_eq!(rt; entries[9].answer, Some(Err(Refusal::NoneStands)));
     let mut short = [7; 1];
     assert!(rt; case.judge(9).is_ok());
     assert_eq!(rt; case.show(&ByNumber, &mut short), Err(Refusal::ShortBuffer));

@@ -8,7 +8,7 @@ use Rattle.report.specs.declared.fault.Fault.{Fault}
 use Rattle.report.specs.declared.fault.Fault.TheVariants.{File}
 use Rattle.report.specs.declared.printing.ReportRefusal.{ReportRefusal}
 use Rattle.report.specs.declared.printing.ReportRefusal.TheVariants.{ShortBuffer}
-use Rattle.report.specs.Text.{pair_line}
+use Rattle.text.specs.Lines.{pair_line}
 
 -- A file's fault, passed up.
 abbrev pub from_file : {X : Type 0} → Result X FileFault → Result X Fault
@@ -23,9 +23,13 @@ read bs = from_file (checked bs)
 abbrev pub fault_line : Fault → List ℕ
 fault_line (File f) = pair_line (codes "fault file ") (fault_number f) (codes " place ") (fault_place f)
 
+-- The line with season and count.
+abbrev pub header_line : Header → List ℕ
+header_line h = pair_line (codes "season ") h.season (codes " events ") h.count
+
 -- The line with season and count, or the line that tells of the fault.
 abbrev pub text_by : Result Header Fault → List ℕ
-text_by (Ok h) = pair_line (codes "season ") h.season (codes " events ") h.count
+text_by (Ok h) = header_line h
 text_by (Err f) = fault_line f
 
 -- The report on bytes.

@@ -1,10 +1,9 @@
-ghost use Rattle.std.specs.Prelude.{◌≡◌, ◌≤◌, length};
+ghost use Rattle.std.specs.Prelude.{◌≡◌};
 ghost use Rattle.report.specs.declared.fault.Fault.TheVariants.{File};
 ghost use Rattle.report.specs.Reports.{fault_line};
-ghost use Rattle.report.specs.Text.{Put};
 
-use crate::text::put_pair_line;
 use packed::FileFault;
+use text::{Text, pair_line};
 
 /// A fault of a layer below, carried whole: its layer, its number and its place.
 #[derive(Clone, Copy)]
@@ -21,20 +20,15 @@ impl From<FileFault> for Fault {
     }
 }
 
-/// Puts the line that tells of a fault at the front of a buffer.
-pub(crate) fn put_fault(buffer: &mut [u8], fault: Fault) -> usize
-    requires { 1024 ≤ length buffer.old }
-    ensures put { Put buffer.old buffer.new 0 result (fault_line fault) }
-    ensures room { result ≤ 1024 }
+/// The line that tells of a fault.
+pub fn fault_line(fault: Fault) -> Text
+    ensures { result.bytes ≡ fault_line fault }
 {
-    match fault {
-        Fault::File(f) => put_pair_line(
-            buffer,
-            0,
-            b"fault file ",
-            f.number() as u64,
-            b" place ",
-            f.place() as u64,
-        ),
-    }
+    let Fault::File(f) = fault;
+    pair_line(
+        "fault file ",
+        f.number().into(),
+        " place ",
+        f.place() as u64,
+    )
 }

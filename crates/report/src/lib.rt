@@ -4,10 +4,9 @@
 
 mod fault;
 mod printing;
-mod text;
 
-pub use fault::Fault;
-pub use printing::{ReportRefusal, report};
+pub use fault::{Fault, fault_line};
+pub use printing::{ReportRefusal, header_line, report};
 
 #[cfg(test)]
 mod tests;

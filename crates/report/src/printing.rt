@@ -1,15 +1,16 @@
 ghost use Rattle.std.specs.Prelude.{◌≡◌, ◌≤◌, length, IfOk};
-ghost use Rattle.report.specs.Reports.{read, report_text, report_answer, report_after, refusal_number};
+ghost use Rattle.arrayvec.specs.ArrayString.{array_string_len};
+ghost use Rattle.report.specs.Reports.{header_line, read, report_text, report_answer, report_after, refusal_number};
 
-use crate::fault::{Fault, put_fault};
-use crate::text::put_pair_line;
+use crate::fault::{Fault, fault_line};
 use packed::{Header, check};
+use text::{Text, copy_to_front, pair_line};
 
 /// Why no report is written.
 #[derive(Clone, Copy, PartialEq, Eq, Debug)]
 pub enum ReportRefusal {
     /// The buffer has fewer than 1,024 bytes.
-    ShortBuffer,
+    ShortBuffer = 41,
 }
 
 impl ReportRefusal {
@@ -17,9 +18,7 @@ impl ReportRefusal {
     pub fn number(self) -> u8
         ensures { result ≡ refusal_number self }
     {
-        match self {
-            ReportRefusal::ShortBuffer => 41,
-        }
+        self as u8
     }
 }
 
@@ -29,6 +28,19 @@ fn read_header(bytes: &[u8]) -> Result<Header, Fault>
 {
     let header = check(bytes)?;
     Ok(header)
+}
+
+/// The line with season and count.
+pub fn header_line(header: Header) -> Text
+    ensures text { result.bytes ≡ header_line header }
+    ensures short { array_string_len result ≤ 56 }
+{
+    pair_line(
+        "season ",
+        header.season.into(),
+        " events ",
+        header.count.into(),
+    )
 }
 
 /// Writes the report on packed bytes to the front of a buffer, and answers the bytes used.
@@ -44,15 +56,9 @@ pub fn report(bytes: &[u8], buffer: &mut [u8]) -> Result<usize, ReportRefusal>
     if buffer.len() < 1024 {
         return Err(ReportRefusal::ShortBuffer);
     }
-    match read_header(bytes) {
-        Ok(h) => Ok(put_pair_line(
-            buffer,
-            0,
-            b"season ",
-            h.season as u64,
-            b" events ",
-            h.count as u64,
-        )),
-        Err(fault) => Ok(put_fault(buffer, fault)),
-    }
+    let text = match read_header(bytes) {
+        Ok(header) => header_line(header),
+        Err(fault) => fault_line(fault),
+    };
+    Ok(copy_to_front(&text, buffer))
 }

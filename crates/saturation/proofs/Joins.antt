@@ -4,7 +4,7 @@ use denote.Struct.Props.{props}
 use Rattle.std.proofs.lemmas.Bool.{cases_Bool, eq-eqb, ne_eqb, true≢false, or_left, or_right, or_from, and_parts, and_from, not-true, and_left, and_right, or_cases}
 use Rattle.sets.specs.Bits.{count}
 use Rattle.sets.specs.Sets.{has, size}
-use Rattle.sets.specs.Rows.{in_row, widened}
+use Rattle.sets.specs.Rows.{in_row, trail_len, widened}
 use Rattle.saturation.specs.Orders.{Transitive, Sound, free, slack}
 use Rattle.saturation.specs.Relations.{earlier, Spans}
 use Rattle.sets.specs.declared.table.Table.{Table}
@@ -32,7 +32,7 @@ sound_prop {n} {T} {R} {B} {a} {b} s t =
     }
 
 -- what every relation keeps to
-pub sound : {N W T : ℕ} (o : Relation N W T) → Sound o.count T (in_row o.after) (in_row o.before) o.after.len o.before.len
+pub sound : {N W T : ℕ} (o : Relation N W T) → Sound o.count T (in_row o.after) (in_row o.before) (trail_len o.after) (trail_len o.before)
 sound o = ∥∥₁_elim o.sound sound_prop (λ s. s)
 
 -- the pairs of different numbers below n are not more than those below N
@@ -156,10 +156,10 @@ module _ (n T : ℕ) (R B : ℕ → ℕ → Bool) (a b : ℕ) (s : Sound n T R B
 
 module _ {N W T : ℕ} (o : Relation N W T) (u v : ℕ) (lu : u < o.count) (lv : v < o.count) (was : free (earlier o) u v ≡ true) (span : Span W) (is : Spans o u v span) where
   pub head_below : (x : ℕ) → has span.heads x ≡ true → x < o.count
-  head_below x h = head_inside o.count T (earlier o) (in_row o.before) o.after.len o.before.len (sound o) u v lu lv was x (sym (is.heads x) ∙ h)
+  head_below x h = head_inside o.count T (earlier o) (in_row o.before) (trail_len o.after) (trail_len o.before) (sound o) u v lu lv was x (sym (is.heads x) ∙ h)
 
   pub tail_below : (y : ℕ) → has span.tails y ≡ true → y < o.count
-  tail_below y h = tail_inside o.count T (earlier o) (in_row o.before) o.after.len o.before.len (sound o) u v lu lv was y (sym (is.tails y) ∙ h)
+  tail_below y h = tail_inside o.count T (earlier o) (in_row o.before) (trail_len o.after) (trail_len o.before) (sound o) u v lu lv was y (sym (is.tails y) ∙ h)
 
   head_size : size span.heads ≤ count (heads (earlier o) u v) o.count
   head_size = let e : has span.heads ≡ heads (earlier o) u v = λ i x. is.heads x i in subst (λ (f : ℕ → Bool). size span.heads ≤ count f o.count) e (size_below span.heads o.count head_below)
@@ -167,11 +167,11 @@ module _ {N W T : ℕ} (o : Relation N W T) (u v : ℕ) (lu : u < o.count) (lv :
   tail_size : size span.tails ≤ count (tails (earlier o) u v) o.count
   tail_size = let e : has span.tails ≡ tails (earlier o) u v = λ i x. is.tails x i in subst (λ (f : ℕ → Bool). size span.tails ≤ count f o.count) e (size_below span.tails o.count tail_below)
 
-  pub after_room : o.after.len + size span.heads ≤ T
-  after_room = head_room o.count T (earlier o) (in_row o.before) o.after.len o.before.len (sound o) u v lu lv was (size span.heads) head_size
+  pub after_room : trail_len o.after + size span.heads ≤ T
+  after_room = head_room o.count T (earlier o) (in_row o.before) (trail_len o.after) (trail_len o.before) (sound o) u v lu lv was (size span.heads) head_size
 
-  pub before_room : o.before.len + size span.tails ≤ T
-  before_room = tail_room o.count T (earlier o) (in_row o.before) o.after.len o.before.len (sound o) u v lu lv was (size span.tails) tail_size
+  pub before_room : trail_len o.before + size span.tails ≤ T
+  before_room = tail_room o.count T (earlier o) (in_row o.before) (trail_len o.after) (trail_len o.before) (sound o) u v lu lv was (size span.tails) tail_size
 
   -- the rows that were widened have the pair, and all that follows
   pub after_is : (S : ℕ → ℕ → Bool) → S ≡ widened (earlier o) (has span.heads) (has span.below) → S ≡ added (earlier o) u v
@@ -189,11 +189,11 @@ module _ {N W T : ℕ} (o : Relation N W T) (u v : ℕ) (lu : u < o.count) (lv :
       ∙ by_tails (earlier o) (sound o).chains u v x y
 
   pub sound_joined : (s t : Table N W T) → in_row s ≡ widened (earlier o) (has span.heads) (has span.below) → in_row t ≡ widened (in_row o.before) (has span.tails) (has span.above)
-      → s.len ≤ o.after.len + size span.heads → t.len ≤ o.before.len + size span.tails
-      → Sound o.count T (in_row s) (in_row t) s.len t.len
+      → trail_len s ≤ trail_len o.after + size span.heads → trail_len t ≤ trail_len o.before + size span.tails
+      → Sound o.count T (in_row s) (in_row t) (trail_len s) (trail_len t)
   sound_joined s t e f ls lt =
-      sound_join o.count T (earlier o) (in_row o.before) o.after.len o.before.len (sound o) u v lu lv was
-      (in_row s) (in_row t) s.len t.len (size span.heads) (size span.tails) (after_is (in_row s) e) (before_is (in_row t) f) head_size tail_size ls lt
+      sound_join o.count T (earlier o) (in_row o.before) (trail_len o.after) (trail_len o.before) (sound o) u v lu lv was
+      (in_row s) (in_row t) (trail_len s) (trail_len t) (size span.heads) (size span.tails) (after_is (in_row s) e) (before_is (in_row t) f) head_size tail_size ls lt
 
   -- an event is newly before v just where its row changes
   pub waiting_is : (S : ℕ → ℕ → Bool) → S ≡ added (earlier o) u v → (x : ℕ) (e d : Bool) → e ≡ (d || has span.heads x) → e ≡ (d || (S x v && not (earlier o x v)))

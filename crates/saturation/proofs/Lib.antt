@@ -1,4 +1,5 @@
 pub mod Slacks
+pub mod Parts
 pub mod Links
 pub mod Joins
 pub mod Trails

@@ -1,11 +1,12 @@
 -- How the facts of a history are gathered, pair of events by pair of events.
 use Rattle.std.proofs.Common.{◌≡◌, ℕ, suc, ◌+◌, ◌-◌, ◌<◌, Bool, true, false, not, ◌&&◌, ◌||◌, eqb, ltb, ◌≢◌, List, length, get_or, set, sym, refl, ap, ◌∙◌, subst, inl, inr, arith}
-use Rattle.std.proofs.lemmas.List.{get_or-set_same, get_or-set_other, get_or_past}
+use Rattle.std.proofs.lemmas.List.{length-map, get_or-set_same, get_or-set_other, get_or_past}
 use Rattle.std.proofs.lemmas.Bool.{true≢false, and_parts, and_from, or_cases, cases_eq, cases_lt, cases_order, eqb-true, eqb-false, eq-eqb, ne_eqb, lt-ltb, le-ltb, not-true, not_from_false, not_from_true, and_left, and_right}
 use Rattle.history.specs.declared.event.Event.{Event}
 use Rattle.order.specs.History.{History, count, at, star_of, revision_of, Number, Read, Write, TakesFrom, TwoWrites}
 use Rattle.order.specs.Opening.{is_read, is_write, Accepted}
 use Rattle.sets.specs.Rows.{in_rows, PutIn}
+use Rattle.saturation.specs.Ties.{from_of, mates_of, others_of, takers_of}
 use Rattle.saturation.specs.Laws.{Blank}
 use Rattle.saturation.specs.Nodes.{FactsOf}
 use Rattle.saturation.specs.Noting.{mate, reads_star, taker, other, Noted, with_row}
@@ -13,7 +14,7 @@ use Rattle.sets.specs.declared.set.EventSet.{EventSet}
 use Rattle.saturation.specs.declared.saturate.Facts.{Facts}
 use Rattle.saturation.specs.declared.record.Recorded.{Recorded}
 use Rattle.saturation.specs.Recorded.{history_in}
-use Rattle.saturation.proofs.Records.{zeros, record_at, record_accepted}
+use Rattle.saturation.proofs.Records.{zeros, record_accepted}
 
 -- what the tests say of two events, in each of the cases that there are
 module _ (a b : Event) where
@@ -270,13 +271,8 @@ rows_more m x w q = rw (ltb_more w x) (both (ltb w x) (eqb w x) (ltb q m))
     both false b c = refl
 
 -- The pair of x and y is looked at, and noted.
-module _ {N W : ℕ} (r : Recorded N W) (x y : ℕ) (lx : x < r.count) (ly : y < r.count) (D : ℕ → ℕ → Bool) (o : Facts N W) (n : Noted (history_in r) D o) where
-  abbrev a : Event
-  a = get_or r.events x zeros
-
-  abbrev b : Event
-  b = get_or r.events y zeros
-
+module _ {N W : ℕ} (r : Recorded N W) (x y : ℕ) (lx : x < count (history_in r)) (ly : y < count (history_in r))
+    (a b : Event) (ea : a ≡ at (history_in r) (suc x)) (eb : b ≡ at (history_in r) (suc y)) (D : ℕ → ℕ → Bool) (o : Facts N W) (n : Noted (history_in r) D o) where
   abbrev here : History
   here = history_in r
 
@@ -284,7 +280,7 @@ module _ {N W : ℕ} (r : Recorded N W) (x y : ℕ) (lx : x < r.count) (ly : y <
   then = with_row D x (λ q. eqb q y)
 
   lift : (P : Event → Event → Bool) (v : Bool) → P a b ≡ v → P (at here (suc x)) (at here (suc y)) ≡ v
-  lift P v k = ap (λ e. P e (at here (suc y))) (record_at r x lx) ∙ ap (λ e. P a e) (record_at r y ly) ∙ k
+  lift P v k = ap (λ e. P e (at here (suc y))) (sym ea) ∙ ap (λ e. P a e) (sym eb) ∙ k
 
   abbrev mated : ℕ → ℕ → Bool
   mated w q = not (eqb w q) && mate (at here (suc w)) (at here (suc q))
@@ -297,10 +293,10 @@ module _ {N W : ℕ} (r : Recorded N W) (x y : ℕ) (lx : x < r.count) (ly : y <
 
   alone : mated x y ≡ false → (t : taker a b ≡ false) (k : other a b ≡ false) → Noted here then o
   alone m t k = record {
-    mates = row_skip D mated x y o.mates n.mates o.mates refl m;
-    takers = row_skip D taking x y o.takers n.takers o.takers refl (lift taker false t);
-    others = row_skip D missing x y o.others n.others o.others refl (lift other false k);
-    from = from_skip D taking x y o.from n.from o.from refl (lift taker false t);
+    mates = row_skip D mated x y (mates_of o.ties) n.mates (mates_of o.ties) refl m;
+    takers = row_skip D taking x y (takers_of o.ties) n.takers (takers_of o.ties) refl (lift taker false t);
+    others = row_skip D missing x y (others_of o.ties) n.others (others_of o.ties) refl (lift other false k);
+    from = from_skip D taking x y (from_of o.ties) n.from (from_of o.ties) refl (lift taker false t);
   }
 
   pub noted_none : Says a b false false false → Noted here then o
@@ -310,29 +306,29 @@ module _ {N W : ℕ} (r : Recorded N W) (x y : ℕ) (lx : x < r.count) (ly : y <
   noted_self e s = alone (and_left (not (eqb x y)) _ (not_from_true (eqb x y) (eq-eqb x y e))) s.1 s.2
 
   module _ (p : Facts N W) where
-    pub noted_mate : x ≢ y → PutIn o.mates p.mates x y → p.takers ≡ o.takers → p.others ≡ o.others → p.from ≡ o.from → Says a b true false false → Noted here then p
+    pub noted_mate : x ≢ y → PutIn (mates_of o.ties) (mates_of p.ties) x y → (takers_of p.ties) ≡ (takers_of o.ties) → (others_of p.ties) ≡ (others_of o.ties) → (from_of p.ties) ≡ (from_of o.ties) → Says a b true false false → Noted here then p
     noted_mate ne put t k f s = record {
-      mates = row_put D mated x y o.mates n.mates p.mates put (and_from _ _ (not_from_false _ (ne_eqb x y ne)) (lift mate true s.0));
-      takers = row_skip D taking x y o.takers n.takers p.takers t (lift taker false s.1);
-      others = row_skip D missing x y o.others n.others p.others k (lift other false s.2);
-      from = from_skip D taking x y o.from n.from p.from f (lift taker false s.1);
+      mates = row_put D mated x y (mates_of o.ties) n.mates (mates_of p.ties) put (and_from _ _ (not_from_false _ (ne_eqb x y ne)) (lift mate true s.0));
+      takers = row_skip D taking x y (takers_of o.ties) n.takers (takers_of p.ties) t (lift taker false s.1);
+      others = row_skip D missing x y (others_of o.ties) n.others (others_of p.ties) k (lift other false s.2);
+      from = from_skip D taking x y (from_of o.ties) n.from (from_of p.ties) f (lift taker false s.1);
     }
 
-    pub noted_taker : PutIn o.takers p.takers x y → p.mates ≡ o.mates → p.others ≡ o.others → p.from ≡ set o.from y x → Says a b false true false → Noted here then p
+    pub noted_taker : PutIn (takers_of o.ties) (takers_of p.ties) x y → (mates_of p.ties) ≡ (mates_of o.ties) → (others_of p.ties) ≡ (others_of o.ties) → (from_of p.ties) ≡ set (from_of o.ties) y x → Says a b false true false → Noted here then p
     noted_taker put m k f s =
         let mine = taker_e here x y (lift taker true s.1) in
-        let ly' : y < length o.from = let c = r.fits in let d = o.each in omega arith in
+        let ly' : y < length (from_of o.ties) = rw length-map (let c = r.fits in let d = o.each in omega arith) in
         record {
-          mates = row_skip D mated x y o.mates n.mates p.mates m (and_right (not (eqb x y)) _ (lift mate false s.0));
-          takers = row_put D taking x y o.takers n.takers p.takers put (lift taker true s.1);
-          others = row_skip D missing x y o.others n.others p.others k (lift other false s.2);
-          from = from_put D taking x y o.from n.from p.from f ly' (λ w t. taker_one here (record_accepted r) w x y (taker_e here w y t) mine);
+          mates = row_skip D mated x y (mates_of o.ties) n.mates (mates_of p.ties) m (and_right (not (eqb x y)) _ (lift mate false s.0));
+          takers = row_put D taking x y (takers_of o.ties) n.takers (takers_of p.ties) put (lift taker true s.1);
+          others = row_skip D missing x y (others_of o.ties) n.others (others_of p.ties) k (lift other false s.2);
+          from = from_put D taking x y (from_of o.ties) n.from (from_of p.ties) f ly' (λ w t. taker_one here (record_accepted r) w x y (taker_e here w y t) mine);
         }
 
-    pub noted_other : PutIn o.others p.others x y → p.mates ≡ o.mates → p.takers ≡ o.takers → p.from ≡ o.from → Says a b false false true → Noted here then p
+    pub noted_other : PutIn (others_of o.ties) (others_of p.ties) x y → (mates_of p.ties) ≡ (mates_of o.ties) → (takers_of p.ties) ≡ (takers_of o.ties) → (from_of p.ties) ≡ (from_of o.ties) → Says a b false false true → Noted here then p
     noted_other put m t f s = record {
-      mates = row_skip D mated x y o.mates n.mates p.mates m (and_right (not (eqb x y)) _ (lift mate false s.0));
-      takers = row_skip D taking x y o.takers n.takers p.takers t (lift taker false s.1);
-      others = row_put D missing x y o.others n.others p.others put (lift other true s.2);
-      from = from_skip D taking x y o.from n.from p.from f (lift taker false s.1);
+      mates = row_skip D mated x y (mates_of o.ties) n.mates (mates_of p.ties) m (and_right (not (eqb x y)) _ (lift mate false s.0));
+      takers = row_skip D taking x y (takers_of o.ties) n.takers (takers_of p.ties) t (lift taker false s.1);
+      others = row_put D missing x y (others_of o.ties) n.others (others_of p.ties) put (lift other true s.2);
+      from = from_skip D taking x y (from_of o.ties) n.from (from_of p.ties) f (lift taker false s.1);
     }

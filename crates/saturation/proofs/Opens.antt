@@ -5,6 +5,7 @@ use Rattle.order.specs.History.{History, TwoWrites}
 use Rattle.order.specs.Before.{Before}
 use Rattle.order.specs.Search.{Unordered, FirstUnordered, Complete}
 use Rattle.sets.specs.Rows.{in_rows}
+use Rattle.saturation.specs.Ties.{mates_of}
 use Rattle.saturation.specs.Orders.{free}
 use Rattle.saturation.specs.Relations.{earlier}
 use Rattle.saturation.specs.Nodes.{Exact, FactsOf}
@@ -19,7 +20,7 @@ module _ {N W T : ℕ} {f : Facts N W} (h : History) (S : List (ℕ × ℕ)) (fa
   not_yet x y n = elim (cases_Bool (earlier o x y)) [ inl t ↦ absurd (n (exact.only x y t)) | inr t ↦ t ]
 
   -- the unordered pairs of the node are the free pairs of writes of one star
-  pub unordered_e : (x y : ℕ) → Unordered h S (suc x) (suc y) → (x < y) × (in_rows f.mates x y ≡ true) × (free (earlier o) x y ≡ true)
+  pub unordered_e : (x y : ℕ) → Unordered h S (suc x) (suc y) → (x < y) × (in_rows (mates_of f.ties) x y ≡ true) × (free (earlier o) x y ≡ true)
   unordered_e x y u =
       let l : suc x < suc y = u.lower in (
         omega arith,
@@ -27,7 +28,7 @@ module _ {N W T : ℕ} {f : Facts N W} (h : History) (S : List (ℕ × ℕ)) (fa
         free_from (earlier o) x y (λ e. omega arith) (not_yet x y u.not_before) (not_yet y x u.not_after),
       )
 
-  pub unordered_i : (x y : ℕ) → x < y → in_rows f.mates x y ≡ true → free (earlier o) x y ≡ true → Unordered h S (suc x) (suc y)
+  pub unordered_i : (x y : ℕ) → x < y → in_rows (mates_of f.ties) x y ≡ true → free (earlier o) x y ≡ true → Unordered h S (suc x) (suc y)
   unordered_i x y l m k =
       let p = free_parts (earlier o) x y k in
       record {
@@ -39,10 +40,10 @@ module _ {N W T : ℕ} {f : Facts N W} (h : History) (S : List (ℕ × ℕ)) (fa
 
   -- the events from k to a have no such pair
   abbrev NoneUpTo : ℕ → ℕ → Type 0
-  NoneUpTo k a = (x y : ℕ) → k ≤ x → x < a → x < y → in_rows f.mates x y ≡ true → free (earlier o) x y ≡ true → ⊥
+  NoneUpTo k a = (x y : ℕ) → k ≤ x → x < a → x < y → in_rows (mates_of f.ties) x y ≡ true → free (earlier o) x y ≡ true → ⊥
 
-  pub first_open : (k a b : ℕ) → a < b → in_rows f.mates a b ≡ true → free (earlier o) a b ≡ true → NoneUpTo k a
-      → ((y : ℕ) → a < y → in_rows f.mates a y ≡ true → free (earlier o) a y ≡ true → b ≤ y) → OpenFrom h S k → FirstUnordered h S (suc a) (suc b)
+  pub first_open : (k a b : ℕ) → a < b → in_rows (mates_of f.ties) a b ≡ true → free (earlier o) a b ≡ true → NoneUpTo k a
+      → ((y : ℕ) → a < y → in_rows (mates_of f.ties) a y ≡ true → free (earlier o) a y ≡ true → b ≤ y) → OpenFrom h S k → FirstUnordered h S (suc a) (suc b)
   first_open k a b l m z none lowest from = record {
     unordered = unordered_i a b l m z;
     first = λ c d u.
@@ -51,7 +52,7 @@ module _ {N W T : ℕ} {f : Facts N W} (h : History) (S : List (ℕ × ℕ)) (fa
         let q = unordered_e x y u in
         let lx = from (suc x) (suc y) u in
         elim (cases_order x a) [
-          | inl e ↦ inr (ap suc (sym e), let g = lowest y (subst (λ w. w < y) e q.0) (subst (λ w. in_rows f.mates w y ≡ true) e q.1) (subst (λ w. free (earlier o) w y ≡ true) e q.2) in omega arith)
+          | inl e ↦ inr (ap suc (sym e), let g = lowest y (subst (λ w. w < y) e q.0) (subst (λ w. in_rows (mates_of f.ties) w y ≡ true) e q.1) (subst (λ w. free (earlier o) w y ≡ true) e q.2) in omega arith)
           | inr (inl s) ↦ absurd (none x y (omega arith) s q.0 q.1 q.2)
           | inr (inr s) ↦ inl (omega arith)
         ])

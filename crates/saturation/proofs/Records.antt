@@ -1,8 +1,7 @@
 -- What a record of events and rows of kept pairs means.
-use Rattle.std.proofs.Common.{◌≡◌, ℕ, zero, suc, ◌-◌, ◌<◌, ◌≤◌, Bool, true, false, ◌&&◌, T, eqb, ltb, leb, List, length, get_or, take, sym, refl, ap, ◌∙◌, arith}
+use Rattle.std.proofs.Common.{◌≡◌, ℕ, zero, suc, ◌-◌, ◌<◌, ◌≤◌, Bool, true, false, ◌&&◌, T, eqb, ltb, leb, List, length, get_or, sym, refl, ap, ◌∙◌, arith}
 use mathlib.Core.Logic.{∥∥₁_elim}
 use denote.Struct.Props.{props}
-use Rattle.std.proofs.lemmas.List.{length-take-le, get_or-take}
 use Rattle.std.proofs.lemmas.Bool.{true≢false, and_parts, lt-ltb, le-ltb, ltb-true, le-leb, leb-true}
 use Rattle.history.specs.declared.event.Event.{Event}
 use Rattle.order.specs.History.{count, event_at, at, kept_by, history_of, WellFormed}
@@ -19,81 +18,78 @@ use Rattle.saturation.specs.declared.record.Recorded.{Recorded}
 abbrev pub zeros : Event
 zeros = record { kind = 0; session = 0; star = 0; revision = 0 }
 
-module _ (es : List Event) (n : ℕ) (many : n ≤ length es) where
-  pub event_at_lem : (x : ℕ) → x < n → event_at (take n es) (suc x) ≡ get_or es x zeros
-  event_at_lem x l = let e : suc x - 1 ≡ x = omega arith in ap (λ k. get_or (take n es) k zeros) e ∙ get_or-take n es x zeros l
+-- the event x has the number x + 1
+pub event_at_lem : (es : List Event) (x : ℕ) → event_at es (suc x) ≡ get_or es x zeros
+event_at_lem es x = let e : suc x - 1 ≡ x = omega arith in ap (λ k. get_or es k zeros) e
 
-  module _ (keeps : ℕ → ℕ → ℕ → ℕ → Bool) where
-    abbrev K : ℕ → ℕ → Bool
-    K x y = kept_by keeps (take n es) (suc x) (suc y)
+module _ (es : List Event) (keeps : ℕ → ℕ → ℕ → ℕ → Bool) where
+  abbrev K : ℕ → ℕ → Bool
+  K x y = kept_by keeps es (suc x) (suc y)
 
-    -- whether the rule keeps a pair of events
-    pub pair_kept : (x y : ℕ) → x < y → y < n
-        → K x y ≡ (eqb (get_or es x zeros).session (get_or es y zeros).session && keeps (get_or es x zeros).kind (get_or es x zeros).star (get_or es y zeros).kind (get_or es y zeros).star)
-    pair_kept x y l m =
+  -- whether the rule keeps a pair of events
+  pub pair_kept : (x y : ℕ) → x < y → y < length es
+      → K x y ≡ (eqb (get_or es x zeros).session (get_or es y zeros).session && keeps (get_or es x zeros).kind (get_or es x zeros).star (get_or es y zeros).kind (get_or es y zeros).star)
+  pair_kept x y l m =
+      let a : leb 1 (suc x) ≡ true = le-leb 1 (suc x) (omega arith) in
+      let b : ltb (suc x) (suc y) ≡ true = lt-ltb (suc x) (suc y) (omega arith) in
+      let c : leb (suc y) (length es) ≡ true = le-leb (suc y) (length es) (omega arith) in
+      rw (a, b, c, event_at_lem es x, event_at_lem es y)
+
+  pub kept_bounds : (x y : ℕ) → K x y ≡ true → (x < y) × (y < length es)
+  kept_bounds x y k =
+      let p = and_parts (leb 1 (suc x)) _ k in
+      let q = and_parts (ltb (suc x) (suc y)) _ p.1 in
+      let r = and_parts (leb (suc y) (length es)) _ q.1 in
+      let b : suc x < suc y = ltb-true (suc x) (suc y) q.0 in
+      let c : suc y ≤ length es = leb-true (suc y) (length es) r.0 in
+      (omega arith, omega arith)
+
+  -- rows that are as the rule says mean the history of the rule
+  module _ {W : ℕ} (rows : List (EventSet W)) (so : (x y : ℕ) → in_rows rows x y ≡ K x y) where
+    twice : (a b c m : Bool) → (a && (b && (c && (a && (b && (c && m)))))) ≡ (a && (b && (c && m)))
+    twice true true true m = refl
+    twice true true false m = refl
+    twice true false c m = refl
+    twice false b c m = refl
+
+    kept_is : (a b : ℕ) → kept_in (length es) rows a b ≡ kept_by keeps es a b
+    kept_is zero b = refl
+    kept_is (suc x) zero =
         let a : leb 1 (suc x) ≡ true = le-leb 1 (suc x) (omega arith) in
-        let b : ltb (suc x) (suc y) ≡ true = lt-ltb (suc x) (suc y) (omega arith) in
-        let c : leb (suc y) (length (take n es)) ≡ true = le-leb (suc y) (length (take n es)) (rw (length-take-le n es many) (omega arith)) in
-        let p : event_at (take n es) (suc x) ≡ get_or es x zeros = event_at_lem x (omega arith) in
-        let q : event_at (take n es) (suc y) ≡ get_or es y zeros = event_at_lem y m in
-        rw (a, b, c, p, q)
+        let b : ltb (suc x) 0 ≡ false = le-ltb (suc x) 0 (omega arith) in
+        rw (a, b)
+    kept_is (suc x) (suc y) =
+        let ex : suc x - 1 ≡ x = omega arith in
+        let ey : suc y - 1 ≡ y = omega arith in
+        ap (λ k. leb 1 (suc x) && (ltb (suc x) (suc y) && (leb (suc y) (length es) && in_rows rows k (suc y - 1)))) ex
+        ∙ ap (λ k. leb 1 (suc x) && (ltb (suc x) (suc y) && (leb (suc y) (length es) && in_rows rows x k))) ey
+        ∙ ap (λ b. leb 1 (suc x) && (ltb (suc x) (suc y) && (leb (suc y) (length es) && b))) (so x y)
+        ∙ twice (leb 1 (suc x)) (ltb (suc x) (suc y)) (leb (suc y) (length es)) _
 
-    pub kept_bounds : (x y : ℕ) → K x y ≡ true → (x < y) × (y < n)
-    kept_bounds x y k =
-        let p = and_parts (leb 1 (suc x)) _ k in
-        let q = and_parts (ltb (suc x) (suc y)) _ p.1 in
-        let r = and_parts (leb (suc y) (length (take n es))) _ q.1 in
-        let b : suc x < suc y = ltb-true (suc x) (suc y) q.0 in
-        let c : suc y ≤ n = rw (length-take-le n es many) at (leb-true (suc y) (length (take n es)) r.0) in
-        (omega arith, omega arith)
-
-    -- rows that are as the rule says mean the history of the rule
-    module _ {W : ℕ} (rows : List (EventSet W)) (so : (x y : ℕ) → in_rows rows x y ≡ K x y) where
-      twice : (a b c m : Bool) → (a && (b && (c && (a && (b && (c && m)))))) ≡ (a && (b && (c && m)))
-      twice true true true m = refl
-      twice true true false m = refl
-      twice true false c m = refl
-      twice false b c m = refl
-
-      kept_is : (a b : ℕ) → kept_in n rows a b ≡ kept_by keeps (take n es) a b
-      kept_is zero b = refl
-      kept_is (suc x) zero =
-          let a : leb 1 (suc x) ≡ true = le-leb 1 (suc x) (omega arith) in
-          let b : ltb (suc x) 0 ≡ false = le-ltb (suc x) 0 (omega arith) in
-          rw (a, b)
-      kept_is (suc x) (suc y) =
-          let ex : suc x - 1 ≡ x = omega arith in
-          let ey : suc y - 1 ≡ y = omega arith in
-          ap (λ k. leb 1 (suc x) && (ltb (suc x) (suc y) && (leb (suc y) n && in_rows rows k (suc y - 1)))) ex
-          ∙ ap (λ k. leb 1 (suc x) && (ltb (suc x) (suc y) && (leb (suc y) n && in_rows rows x k))) ey
-          ∙ ap (λ b. leb 1 (suc x) && (ltb (suc x) (suc y) && (leb (suc y) n && b))) (so x y)
-          ∙ ap (λ k. leb 1 (suc x) && (ltb (suc x) (suc y) && (leb (suc y) k && K x y))) (sym (length-take-le n es many))
-          ∙ twice (leb 1 (suc x)) (ltb (suc x) (suc y)) (leb (suc y) (length (take n es))) _
-
-      pub history_is : history_from es n rows ≡ history_of (take n es) keeps
-      history_is i = record { events = take n es; kept = λ a b. kept_is a b i }
+    pub history_is : history_from es rows ≡ history_of es keeps
+    history_is i = record { events = es; kept = λ a b. kept_is a b i }
 
 -- The kept pairs of a record are pairs of its events, the lower first.
 module _ {N W : ℕ} (r : Recorded N W) where
-  pub record_count : count (history_in r) ≡ r.count
-  record_count = length-take-le r.count r.events (let a = r.fits in let b = r.full in omega arith)
+  pub record_count : count (history_in r) ≡ length r.events.items
+  record_count = refl
 
   pub record_well : WellFormed (history_in r)
   record_well =
-      let parts : (a b : ℕ) → T ((history_in r).kept a b) → (1 ≤ a) × (a < b) × (b ≤ r.count)
+      let parts : (a b : ℕ) → T ((history_in r).kept a b) → (1 ≤ a) × (a < b) × (b ≤ count (history_in r))
       = λ a b k.
       let p = and_parts (leb 1 a) _ (true_is _ k) in
       let q = and_parts (ltb a b) _ p.1 in
-      let s = and_parts (leb b r.count) _ q.1 in
-      (leb-true 1 a p.0, ltb-true a b q.0, leb-true b r.count s.0) in
+      let s = and_parts (leb b (count (history_in r))) _ q.1 in
+      (leb-true 1 a p.0, ltb-true a b q.0, leb-true b (count (history_in r)) s.0) in
       record {
-        first = λ a b k. let p = parts a b k in let e = record_count in record { low = p.0; high = omega (arith, p.1, p.2) };
-        second = λ a b k. let p = parts a b k in let e = record_count in record { low = omega (arith, p.0, p.1); high = omega (arith, p.2) };
+        first = λ a b k. let p = parts a b k in record { low = p.0; high = omega (arith, p.1, p.2) };
+        second = λ a b k. let p = parts a b k in record { low = omega (arith, p.0, p.1); high = omega (arith, p.2) };
         lower = λ a b k. (parts a b k).1;
       }
 
-  pub record_at : (x : ℕ) → x < r.count → at (history_in r) (suc x) ≡ get_or r.events x zeros
-  record_at x l = event_at_lem r.events r.count (let a = r.fits in let b = r.full in omega arith) x l
+  pub record_at : (x : ℕ) → x < count (history_in r) → at (history_in r) (suc x) ≡ get_or r.events.items x zeros
+  record_at x _ = event_at_lem r.events.items x
 
 -- Opening accepts the events of every record.
 abbrev opens : Opening → Bool

@@ -3,7 +3,7 @@ use Rattle.std.proofs.Common.{◌≡◌, ℕ, zero, suc, ◌+◌, ◌-◌, ◌<�
 use mathlib.Core.List.Memᴰ
 use mathlib.Core.List.{Memᴰ}
 use Rattle.std.proofs.lemmas.Bool.{true≢false, and_parts, and_from, or_left, or_right, or_cases, cases_eq, lt-ltb, ltb-true, le-leb, eq-eqb, eqb-true}
-use Rattle.order.specs.History.{History, at, star_of, revision_of, Number, PairsOfEvents, Write}
+use Rattle.order.specs.History.{History, count, at, star_of, revision_of, Number, PairsOfEvents, Write}
 use Rattle.order.specs.Before.{Before, Clash}
 use Rattle.order.specs.Opening.{is_read, is_write}
 use Rattle.order.proofs.Tests.{is_true, true_is}
@@ -122,10 +122,10 @@ module _ {N W : ℕ} (r : Recorded N W) (S : List (ℕ × ℕ)) where
   abbrev h : History
   h = history_in r
 
-  number : (x : ℕ) → x < r.count → Number h (suc x)
+  number : (x : ℕ) → x < count h → Number h (suc x)
   number x l = let e = record_count r in record { low = omega arith; high = omega arith }
 
-  below : (x : ℕ) → Number h (suc x) → x < r.count
+  below : (x : ℕ) → Number h (suc x) → x < count h
   below x n = let e = record_count r in let k = n.high in omega arith
 
   kept_i : (x y : ℕ) → in_rows r.kept x y ≡ true → T (h.kept (suc x) (suc y))
@@ -135,7 +135,7 @@ module _ {N W : ℕ} (r : Recorded N W) (S : List (ℕ × ℕ)) where
       let ey : suc y - 1 ≡ y = omega arith in
       is_true (and_from (leb 1 (suc x)) _ (le-leb 1 (suc x) (omega arith))
       (and_from (ltb (suc x) (suc y)) _ (lt-ltb (suc x) (suc y) (omega (arith, b.0)))
-      (and_from (leb (suc y) r.count) _ (le-leb (suc y) r.count (omega (arith, b.1)))
+      (and_from (leb (suc y) (count h)) _ (le-leb (suc y) (count h) (omega (arith, b.1)))
       (ap (λ z. in_rows r.kept z (suc y - 1)) ex ∙ ap (λ z. in_rows r.kept x z) ey ∙ k))))
 
   kept_e : (x y : ℕ) → T (h.kept (suc x) (suc y)) → in_rows r.kept x y ≡ true
@@ -144,10 +144,10 @@ module _ {N W : ℕ} (r : Recorded N W) (S : List (ℕ × ℕ)) where
       let ey : suc y - 1 ≡ y = omega arith in
       let a = and_parts (leb 1 (suc x)) _ (true_is _ t) in
       let b = and_parts (ltb (suc x) (suc y)) _ a.1 in
-      let c = and_parts (leb (suc y) r.count) _ b.1 in
+      let c = and_parts (leb (suc y) (count h)) _ b.1 in
       ap (λ z. in_rows r.kept x z) (sym ey) ∙ ap (λ z. in_rows r.kept z (suc y - 1)) (sym ex) ∙ c.1
 
-  leads_e : (x y : ℕ) → x < r.count → y < r.count → leads (at h (suc x)) (at h (suc y)) ≡ true → Before h S (suc x) (suc y)
+  leads_e : (x y : ℕ) → x < count h → y < count h → leads (at h (suc x)) (at h (suc y)) ≡ true → Before h S (suc x) (suc y)
   leads_e x y lx ly k =
       let a = and_parts (eqb (star_of h (suc x)) (star_of h (suc y))) _ k in
       let star = eqb-true (star_of h (suc x)) (star_of h (suc y)) a.0 in
@@ -173,36 +173,36 @@ module _ {N W : ℕ} (r : Recorded N W) (S : List (ℕ × ℕ)) where
             (sym star)
       ]
 
-  pub leads_below : (x y : ℕ) → leads_in r x y ≡ true → y < r.count
+  pub leads_below : (x y : ℕ) → leads_in r x y ≡ true → y < count h
   leads_below x y k =
       elim (or_cases (in_rows r.kept x y) _ k) [
         | inl t ↦ (r.later x y t).1
-        | inr t ↦ ltb-true y r.count (and_parts (ltb y r.count) _ t).0
+        | inr t ↦ ltb-true y (count h) (and_parts (ltb y (count h)) _ t).0
       ]
 
-  pub outright_e : (x y : ℕ) → Outright r r.count x y → Before h S (suc x) (suc y)
+  pub outright_e : (x y : ℕ) → Outright r (count h) x y → Before h S (suc x) (suc y)
   outright_e x y (lx, k) =
       elim (or_cases (in_rows r.kept x y) _ k) [
         | inl t ↦ Before.kept (kept_i x y t)
-        | inr t ↦ let a = and_parts (ltb y r.count) _ t in leads_e x y lx (ltb-true y r.count a.0) a.1
+        | inr t ↦ let a = and_parts (ltb y (count h)) _ t in leads_e x y lx (ltb-true y (count h) a.0) a.1
       ]
 
   -- a relation with all of these has the pairs that are given outright
-  pub outright_based : (R : ℕ → ℕ → Bool) → ((x y : ℕ) → Outright r r.count x y → R x y ≡ true) → ((x y : ℕ) → Standing S x y → R x y ≡ true) → Based h S R
+  pub outright_based : (R : ℕ → ℕ → Bool) → ((x y : ℕ) → Outright r (count h) x y → R x y ≡ true) → ((x y : ℕ) → Standing S x y → R x y ≡ true) → Based h S R
   outright_based R given stands = record {
     kept = λ x y t. let k = kept_e x y t in let b = r.later x y k in given x y (omega (arith, b.0, b.1), or_left (in_rows r.kept x y) _ k);
     stands = stands;
     taken = λ w s t.
         given w s (
           below w t.write.number,
-          or_right (in_rows r.kept w s) _ (and_from (ltb s r.count) _ (lt-ltb s r.count (below s t.read.number))
+          or_right (in_rows r.kept w s) _ (and_from (ltb s (count h)) _ (lt-ltb s (count h) (below s t.read.number))
               (and_from (eqb (star_of h (suc w)) (star_of h (suc s))) _ (eq-eqb _ _ t.star)
               (or_left _ _ (and_from (is_write (at h (suc w))) _ (eq-eqb _ 1 t.write.kind) (and_from (is_read (at h (suc s))) _ (eq-eqb _ 0 t.read.kind) (eq-eqb _ _ t.revision)))))),
         );
     start = λ s w f v e.
         given s w (
           below s f.read.number,
-          or_right (in_rows r.kept s w) _ (and_from (ltb w r.count) _ (lt-ltb w r.count (below w v.number))
+          or_right (in_rows r.kept s w) _ (and_from (ltb w (count h)) _ (lt-ltb w (count h) (below w v.number))
               (and_from (eqb (star_of h (suc s)) (star_of h (suc w))) _ (eq-eqb _ _ (sym e))
               (or_right (is_write (at h (suc s)) && (is_read (at h (suc w)) && eqb (revision_of h (suc s)) (revision_of h (suc w)))) _
               (and_from (is_read (at h (suc s))) _ (eq-eqb _ 0 f.read.kind) (and_from (is_write (at h (suc w))) _ (eq-eqb _ 1 v.kind) (eq-eqb _ 0 f.revision)))))),
@@ -220,7 +220,7 @@ module _ {N W : ℕ} (r : Recorded N W) (S : List (ℕ × ℕ)) where
     none : Within (earlier o) Q
     none x y k = absurd (true≢false (sym k ∙ bare x y))
 
-    outright : (x y : ℕ) → Outright r r.count x y → Q x y ≡ true
+    outright : (x y : ℕ) → Outright r (count h) x y → Q x y ≡ true
     outright x y k = past_i h S (record_well r) inside x y (outright_e x y k)
 
     standing : (x y : ℕ) → Standing S x y → Q x y ≡ true
@@ -229,10 +229,10 @@ module _ {N W : ℕ} (r : Recorded N W) (S : List (ℕ × ℕ)) where
     clash : (x : ℕ) × (Q x x ≡ true) → Clash h S
     clash z = (suc z.0, past_e h S (record_well r) inside z.0 z.0 z.1)
 
-    pub events_clash : Blocked (Outright r r.count) o → Clash h S
+    pub events_clash : Blocked (Outright r (count h)) o → Clash h S
     events_clash b = clash (b Q far none outright)
 
-    module _ (p : Relation N W T) (a : Gained (Outright r r.count) o p) where
+    module _ (p : Relation N W T) (a : Gained (Outright r (count h)) o p) where
       pub pairs_clash : Blocked (Standing S) p → Clash h S
       pairs_clash b = clash (b Q far (a.least Q far none outright) standing)
 
@@ -246,7 +246,7 @@ module _ {N W : ℕ} (r : Recorded N W) (S : List (ℕ × ℕ)) where
         pub rules_clash : {f : Facts N W} → FactsOf h f → Doomed f (earlier q) → Clash h S
         rules_clash facts doom = doomed_clash h S (record_well r) inside facts (earlier q) within doom
 
-        pub root_exact : {f : Facts N W} → FactsOf h f → (z : Relation N W T) → Saturated f q z → z.count ≡ r.count → Exact h S z
+        pub root_exact : {f : Facts N W} → FactsOf h f → (z : Relation N W T) → Saturated f q z → z.count ≡ count h → Exact h S z
         root_exact facts z s events =
             exact_i h S (record_well r) inside facts z (events ∙ sym (record_count r)) (sound z).chains
             (s.grown.least Q far within (ruled_closed facts Q (past_ruled h S (record_well r) inside)))

@@ -1,7 +1,8 @@
-use Rattle.std.proofs.Common.{◌≡◌, ℕ, zero, suc, ◌+◌, ◌*◌, ◌<◌, ◌≤◌, Bool, true, false, not, ◌&&◌, ◌||◌, eqb, ◌⊎◌, get_or, MatchBool, sym, refl, ap, ◌∙◌, subst, inl, inr, mul-le-mul_right, add-mul, one-mul, arith}
+use Rattle.std.proofs.Common.{◌≡◌, ℕ, zero, suc, ◌+◌, ◌*◌, ◌<◌, ◌≤◌, Bool, true, false, not, ◌&&◌, ◌||◌, eqb, ◌⊎◌, get_or, MatchBool, Result, Ok, Err, MatchResult, is_ok, sym, refl, ap, ◌∙◌, subst, inl, inr, mul-le-mul_right, add-mul, one-mul, arith}
 use mathlib.Core.Bool.{or-false}
 use Rattle.std.proofs.lemmas.Bool.{cases_Bool, cases_eq, cases_lt, true≢false, and_parts, or_left, or_right, or_cases, not-true, ne_eqb}
 use Rattle.sets.specs.Sets.{size, Popped}
+use Rattle.saturation.specs.Ties.{from_of}
 use Rattle.saturation.specs.Orders.{Within, slack}
 use Rattle.saturation.specs.Relations.{earlier, waits, Idle, Linked, Cyclic, Unmoved}
 use Rattle.saturation.specs.Laws.{Settled, Closed, Doomed, Ready, Grown, Forced, Sources, Readers}
@@ -13,9 +14,15 @@ use Rattle.saturation.proofs.Slacks.{slack_le, slack_falls, free_from}
 use Rattle.saturation.proofs.Joins.{sound}
 use Rattle.saturation.proofs.Trails.{unmoved_earlier}
 
-pub when_map : {A B C D : Type 0} (b : Bool) → (A → C) → (B → D) → MatchBool b A B → MatchBool b C D
-when_map true f g h = f h
-when_map false f g h = g h
+-- of a fact for each variant the one that holds after a yes
+pub after_ok : {X E A : Type 0} (B : Type 0) (r : Result X E) → is_ok r ≡ true → MatchResult r (λ _. A) (λ _. B) → A
+after_ok B (Ok x) t h = h
+after_ok B (Err e) t h = absurd (true≢false (sym t))
+
+-- from a fact for each variant to one for each answer
+pub answered : {X E A B C D : Type 0} (r : Result X E) → (A → C) → (B → D) → MatchResult r (λ _. A) (λ _. B) → MatchBool (is_ok r) C D
+answered (Ok x) f g h = f h
+answered (Err e) f g h = g h
 
 -- an event that is not newly before v has no new successor
 row_stays : {N W T : ℕ} (o p : Relation N W T) (u v : ℕ) → Linked u v o p → (x : ℕ) → (earlier p x v && not (earlier o x v)) ≡ false → (y : ℕ) → earlier p x y ≡ earlier o x y
@@ -86,7 +93,7 @@ module _ {N W T : ℕ} (f : Facts N W) where
   -- an event is settled as long as its successors stay
   settled_stays : (o p : Relation N W T) (w : ℕ) → Within (earlier o) (earlier p) → ((y : ℕ) → earlier p w y ≡ earlier o w y) → Settled f (earlier o) w → Settled f (earlier p) w
   settled_stays o p w keeps same s = (
-    λ r e h. keeps w (get_or f.from r 0) (s.0 r e (sym (same r) ∙ h)),
+    λ r e h. keeps w (get_or (from_of f.ties) r 0) (s.0 r e (sym (same r) ∙ h)),
     λ q r m k h. keeps r q (s.1 q r m k (sym (same q) ∙ h)),
   )
 
@@ -99,7 +106,7 @@ module _ {N W T : ℕ} (f : Facts N W) where
         | inr e ↦ elim (a.tracks w) [
           | inl h ↦ inl (b.waiting w h)
           | inr d ↦ inr (
-            λ r k h. b.grown.keeps w (get_or f.from r 0) (one r k (sym (d r) ∙ sym (e r) ∙ h)),
+            λ r k h. b.grown.keeps w (get_or (from_of f.ties) r 0) (one r k (sym (d r) ∙ sym (e r) ∙ h)),
             λ z r m k h. two z r m k (sym (e z) ∙ h),
           )
         ]

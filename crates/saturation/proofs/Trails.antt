@@ -1,7 +1,7 @@
-use Rattle.std.proofs.Common.{◌≡◌, ℕ, Bool, true, false, not, ◌&&◌, ◌||◌, MatchBool, sym, refl, ap, ◌∙◌, subst, arith}
+use Rattle.std.proofs.Common.{◌≡◌, ℕ, Bool, true, false, not, ◌&&◌, ◌||◌, sym, refl, ap, ◌∙◌, subst, arith}
 use Rattle.sets.specs.Rows.{in_row, RowsKept}
 use Rattle.saturation.specs.Orders.{Sound}
-use Rattle.saturation.specs.Relations.{earlier, waits, mark_of, Kept, Undone, Linked, Cyclic, Unmoved}
+use Rattle.saturation.specs.Relations.{earlier, waits, mark_of, Kept, Undone, Linked, Unmoved}
 use Rattle.sets.specs.declared.table.Table.{Table}
 use Rattle.saturation.specs.declared.relation.Relation.{Relation}
 use Rattle.saturation.specs.declared.relation.Mark.{Mark}
@@ -21,11 +21,6 @@ module _ {N W T : ℕ} where
 
   pub kept_link : (o p : Relation N W T) → p ≡ o → Kept o p
   kept_link o p e = subst (λ (q : Relation N W T). Kept o q) (sym e) (kept_same o)
-
-  -- whatever `link` answers, the trails lead back
-  pub answered_kept : (u v : ℕ) (b : Bool) (o p : Relation N W T) → MatchBool b (Linked u v o p) (Cyclic u v o × (p ≡ o)) → Kept o p
-  answered_kept u v true o p h = h.kept
-  answered_kept u v false o p h = kept_link o p h.1
 
   pub unmoved_kept : (o p : Relation N W T) → Unmoved o p → Kept o p
   unmoved_kept o p u = record {

@@ -1,25 +1,27 @@
-use Rattle.std.specs.Prelude.{◌≡◌, ℕ, ◌<◌, Bool, true, false, ◌⊎◌, MatchBool, slice_index}
+use Rattle.std.specs.Prelude.{◌≡◌, ℕ, ◌<◌, Bool, true, false, ◌⊎◌, Result, MatchResult, slice_index}
 use Rattle.sets.specs.Sets.{has}
 use Rattle.sets.specs.Rows.{in_rows}
+use Rattle.saturation.specs.Ties.{from_of, mates_of, others_of, takers_of}
 use Rattle.saturation.specs.Orders.{Transitive, Within}
 use Rattle.saturation.specs.Relations.{earlier, waits, Idle}
 use Rattle.sets.specs.declared.set.EventSet.{EventSet}
+use Rattle.saturation.specs.declared.relation.Cycle.{Cycle}
 use Rattle.saturation.specs.declared.relation.Relation.{Relation}
 use Rattle.saturation.specs.declared.saturate.Facts.{Facts}
 
 -- nothing is known
 pub record Blank {N W : ℕ} (f : Facts N W) : Type 0 where
-  pub others : (w r : ℕ) → in_rows f.others w r ≡ false
-  pub mates : (w q : ℕ) → in_rows f.mates w q ≡ false
-  pub takers : (w r : ℕ) → in_rows f.takers w r ≡ false
+  pub others : (w r : ℕ) → in_rows (others_of f.ties) w r ≡ false
+  pub mates : (w q : ℕ) → in_rows (mates_of f.ties) w q ≡ false
+  pub takers : (w r : ℕ) → in_rows (takers_of f.ties) w r ≡ false
 
 -- where R has w before a read of its star that takes from another write, S has w before that write
 abbrev pub Sources : {N W : ℕ} → Facts N W → ℕ → (ℕ → ℕ → Bool) → (ℕ → ℕ → Bool) → Type 0
-Sources f w R S = (r : ℕ) → in_rows f.others w r ≡ true → R w r ≡ true → S w (slice_index f.from r) ≡ true
+Sources f w R S = (r : ℕ) → in_rows (others_of f.ties) w r ≡ true → R w r ≡ true → S w (slice_index (from_of f.ties) r) ≡ true
 
 -- where R has w before another write of its star, S has the reads that take from w before that write
 abbrev pub Readers : {N W : ℕ} → Facts N W → ℕ → (ℕ → ℕ → Bool) → (ℕ → ℕ → Bool) → Type 0
-Readers f w R S = (q r : ℕ) → in_rows f.mates w q ≡ true → in_rows f.takers w r ≡ true → R w q ≡ true → S r q ≡ true
+Readers f w R S = (q r : ℕ) → in_rows (mates_of f.ties) w q ≡ true → in_rows (takers_of f.ties) w r ≡ true → R w q ≡ true → S r q ≡ true
 
 -- R has all that the two rules force by its pairs of w
 abbrev pub Settled : {N W : ℕ} → Facts N W → (ℕ → ℕ → Bool) → ℕ → Type 0
@@ -47,7 +49,7 @@ Fitting f o w = (f.count ≡ o.count) × (w < o.count)
 
 -- the events listed are writes of the star of w, and after it
 abbrev pub Later : {N W T : ℕ} → Facts N W → Relation N W T → ℕ → EventSet W → Type 0
-Later f o w s = (q : ℕ) → has s q ≡ true → (in_rows f.mates w q ≡ true) × (earlier o w q ≡ true)
+Later f o w s = (q : ℕ) → has s q ≡ true → (in_rows (mates_of f.ties) w q ≡ true) × (earlier o w q ≡ true)
 
 -- R has r before each of the events listed
 abbrev pub Led : {W : ℕ} → ℕ → EventSet W → (ℕ → ℕ → Bool) → Type 0
@@ -65,10 +67,9 @@ pub record Forced {N W T : ℕ} (f : Facts N W) (o p : Relation N W T) : Type 0 
   pub tracks : (x : ℕ) → (waits p x ≡ true) ⊎ ((y : ℕ) → earlier p x y ≡ earlier o x y)
   pub only : (x : ℕ) → waits p x ≡ true → (waits o x ≡ true) ⊎ ((y : ℕ) × ((earlier p x y ≡ true) × (earlier o x y ≡ false)))
 
--- what comes of following the rules from o to p: with yes what they force, and P of the two relations; with no a
--- clash in any case
-abbrev pub Comes : {N W T : ℕ} → Facts N W → Relation N W T → Relation N W T → ((ℕ → ℕ → Bool) → (ℕ → ℕ → Bool) → Type 0) → Bool → Type 0
-Comes f o p P b = MatchBool b (Forced f o p × P (earlier o) (earlier p)) (Doomed f (earlier o))
+-- what comes of following the rules from o to p: what they force, and P of the two relations; or a clash in any case
+abbrev pub Comes : {N W T : ℕ} → Facts N W → Relation N W T → Relation N W T → ((ℕ → ℕ → Bool) → (ℕ → ℕ → Bool) → Type 0) → Result Unit Cycle → Type 0
+Comes f o p P r = MatchResult r (λ _. Forced f o p × P (earlier o) (earlier p)) (λ _. Doomed f (earlier o))
 
 -- p is the smallest transitive relation with the rules that has all of o, and nothing waits
 pub record Saturated {N W T : ℕ} (f : Facts N W) (o p : Relation N W T) : Type 0 where

@@ -1,5 +1,6 @@
 pub mod Orders
 pub mod Relations
+pub mod Ties
 pub mod Laws
 pub mod Nodes
 pub mod Adding

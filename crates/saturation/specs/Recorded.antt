@@ -5,4 +5,4 @@ use Rattle.saturation.specs.Histories.{history_from}
 use Rattle.saturation.specs.declared.record.Recorded.{Recorded}
 
 abbrev pub history_in : {N W : ℕ} → Recorded N W → History
-history_in r = history_from r.events r.count r.kept
+history_in r = history_from r.events.items r.kept

@@ -1,6 +1,6 @@
 use Rattle.std.specs.Prelude.{◌≡◌, ℕ, Bool, true, false, not, ◌&&◌, ◌||◌, ◌⊎◌, ◌==◌}
 use Rattle.sets.specs.Sets.{has}
-use Rattle.sets.specs.Rows.{in_row, RowsKept}
+use Rattle.sets.specs.Rows.{in_row, trail_len, RowsKept}
 use Rattle.saturation.specs.Orders.{Closure}
 use Rattle.saturation.specs.declared.relation.Relation.{Relation}
 use Rattle.saturation.specs.declared.relation.Mark.{Mark}
@@ -20,7 +20,7 @@ Idle o = (x : ℕ) → waits o x ≡ false
 
 -- how long the two trails are
 abbrev pub mark_of : {N W T : ℕ} → Relation N W T → Mark
-mark_of o = record { after = o.after.len; before = o.before.len }
+mark_of o = record { after = trail_len o.after; before = trail_len o.before }
 
 -- p is o but for what waits
 pub record Unmoved {N W T : ℕ} (o p : Relation N W T) : Type 0 where

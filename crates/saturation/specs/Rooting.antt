@@ -2,7 +2,7 @@
 use Rattle.std.specs.Prelude.{◌≡◌, ℕ, suc, ◌<◌, ◌≤◌, Bool, true, false, ◌&&◌, ◌||◌, List, MatchBool, ◌==◌, nat_lt}
 use mathlib.Core.List.{Memᴰ}
 use Rattle.history.specs.declared.event.Event.{Event}
-use Rattle.order.specs.History.{History, at}
+use Rattle.order.specs.History.{History, at, count}
 use Rattle.order.specs.Before.{Clash}
 use Rattle.order.specs.Opening.{is_read, is_write}
 use Rattle.sets.specs.Sets.{has}
@@ -25,7 +25,7 @@ leads a b =
 
 -- The pair of x and y is kept, or x leads y.
 abbrev pub leads_in : {N W : ℕ} → Recorded N W → ℕ → ℕ → Bool
-leads_in r x y = in_rows r.kept x y || (nat_lt y r.count && leads (at (history_in r) (suc x)) (at (history_in r) (suc y)))
+leads_in r x y = in_rows r.kept x y || (nat_lt y (count (history_in r)) && leads (at (history_in r) (suc x)) (at (history_in r) (suc y)))
 
 -- The pairs that the record gives outright, of which the first event is below n.
 abbrev pub Outright : {N W : ℕ} → Recorded N W → ℕ → ℕ → ℕ → Type 0

@@ -7,6 +7,6 @@ mod record;
 mod relation;
 mod saturate;
 
-pub use record::Recorded;
-pub use relation::{Mark, Relation};
-pub use saturate::Facts;
+pub use record::{Recorded, Stipulated};
+pub use relation::{Cycle, Mark, Relation};
+pub use saturate::{Facts, Ties};

@@ -1,7 +1,7 @@
 //! A strict order of events that is kept closed under chains, and can be taken back.
 ghost use Rattle.std.specs.Prelude.{◌≡◌, ℕ, ◌^◌, ◌<◌, ◌≤◌, Bool, true};
 ghost use Rattle.sets.specs.Sets.{has};
-ghost use Rattle.sets.specs.Rows.{in_row};
+ghost use Rattle.sets.specs.Rows.{in_row, trail_len};
 ghost use Rattle.saturation.specs.Orders.{Sound};
 
 use sets::{EventSet, Table};
@@ -9,8 +9,12 @@ use sets::{EventSet, Table};
 mod link;
 mod undo;
 
+/// The pairs would close a cycle.
+#[derive(Clone, Copy, PartialEq, Eq, Debug)]
+pub struct Cycle;
+
 /// A moment of a relation, to take it back to.
-#[derive(Clone, Copy)]
+#[derive(Clone, Copy, Default)]
 pub struct Mark {
     after: u32,
     before: u32,
@@ -31,7 +35,7 @@ pub struct Relation<const N: usize, const W: usize, const T: usize> {
     ghost fits: { count ≤ N },
     ghost short: { T < 2 ^ 32 },
     ghost listed: { (x : ℕ) → has dirty x ≡ true → x < count },
-    ghost sound: { ∥ Sound count T (in_row after) (in_row before) after.len before.len ∥₁ },
+    ghost sound: { ∥ Sound count T (in_row after) (in_row before) (trail_len after) (trail_len before) ∥₁ },
 }
 
 /// What a new pair touches: its first event with all before it, its second with all after it, and of these the

@@ -1,6 +1,7 @@
 //! What the rules of a history force in a relation.
 ghost use Rattle.std.specs.Prelude.{◌≡◌, ℕ, ◌*◌, ◌<◌, ◌≤◌, Bool, true, length, slice_index};
 ghost use Rattle.sets.specs.Rows.{in_rows};
+ghost use Rattle.saturation.specs.Ties.{others_of, mates_of, takers_of, from_of};
 
 use sets::EventSet;
 
@@ -9,28 +10,32 @@ mod looking;
 mod nodes;
 mod rules;
 
-/// What the rules look at: for each write the events of its star, and for each read the write that it takes from.
+/// What an event has to do with others: if it is a write with the events of its star, if a read with a write.
+#[derive(Clone, Copy)]
+pub struct Ties<const W: usize> {
+    /// The reads of a write's star that take from another write.
+    pub others: EventSet<W>,
+    /// The other writes of a write's star.
+    pub mates: EventSet<W>,
+    /// The reads that take from a write.
+    pub takers: EventSet<W>,
+    /// The write that a read takes from.
+    pub from: u16,
+}
+
+/// What the rules look at: the ties of each event.
 #[derive(Drop)]
 pub struct Facts<const N: usize, const W: usize> {
-    /// The reads of a write's star that take from another write.
-    others: [EventSet<W>; N],
-    /// The other writes of a write's star.
-    mates: [EventSet<W>; N],
-    /// The reads that take from a write.
-    takers: [EventSet<W>; N],
-    /// The write that a read takes from.
-    from: [u16; N],
+    /// The ties of each event.
+    ties: [Ties<W>; N],
     /// How many events there are.
     count: usize,
     ghost wide: { N ≤ 64 * W },
     ghost narrow: { W ≤ 1024 },
     ghost fits: { count ≤ N },
-    ghost full: { length others ≡ N },
-    ghost equal: { length mates ≡ N },
-    ghost many: { length takers ≡ N },
-    ghost each: { length from ≡ N },
-    ghost reads: { (w r : ℕ) → in_rows others w r ≡ true → r < count },
-    ghost writes: { (w q : ℕ) → in_rows mates w q ≡ true → q < count },
-    ghost readers: { (w r : ℕ) → in_rows takers w r ≡ true → r < count },
-    ghost sources: { (r : ℕ) → r < count → slice_index from r < count },
+    ghost each: { length ties ≡ N },
+    ghost reads: { (w r : ℕ) → in_rows (others_of ties) w r ≡ true → r < count },
+    ghost writes: { (w q : ℕ) → in_rows (mates_of ties) w q ≡ true → q < count },
+    ghost readers: { (w r : ℕ) → in_rows (takers_of ties) w r ≡ true → r < count },
+    ghost sources: { (r : ℕ) → r < count → slice_index (from_of ties) r < count },
 }

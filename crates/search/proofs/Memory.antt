@@ -1,119 +1,29 @@
 -- A walk takes less memory than a machine has.
-use Rattle.std.proofs.Common.{ℕ, ◌+◌, ◌-◌, ◌*◌, ◌%◌, ◌^◌, ◌<◌, ◌≤◌, mod-lt, mul-le-mul, arith}
+use Rattle.std.proofs.Common.{ℕ, ◌+◌, ◌*◌, ◌^◌, ◌<◌, ◌≤◌, arith}
 use prog.Memory.{up}
+use Rattle.saturation.specs.Orders.{Roomy}
+use Rattle.saturation.proofs.Memory.{most, vector, vector_most, facts, facts_most, relation, relation_most, row_most, rows_most, trail_most}
 
-most : (k e : ℕ) → 0 < k → up k e ≤ e + k
-most k e pos = let m = mod-lt (k - e % k) {m = k} pos in omega arith
-
--- one table of rows with its trail: p bytes of rows, T entries, q bytes of old rows
-abbrev table : ℕ → ℕ → ℕ → ℕ
-table p T q = up 8 (up 8 (up 8 (up 2 (0 + p) + T * 2) + q) + 8)
-
-table_most : (p T q : ℕ) → table p T q ≤ p + T * 2 + q + 40
-table_most p T q =
-    let a = most 2 (0 + p) (omega arith) in
-    let b = most 8 (up 2 (0 + p) + T * 2) (omega arith) in
-    let c = most 8 (up 8 (up 2 (0 + p) + T * 2) + q) (omega arith) in
-    let d = most 8 (up 8 (up 8 (up 2 (0 + p) + T * 2) + q) + 8) (omega arith) in
-    chain a b c d
-  where
-    chain : {x y z w : ℕ} → x ≤ 0 + p + 2 → y ≤ x + T * 2 + 8 → z ≤ y + q + 8 → w ≤ z + 8 + 8 → w ≤ p + T * 2 + q + 40
-    chain a b c d = omega arith
-
--- the facts: p bytes of rows three times, and a number for each of N events
-abbrev facts : ℕ → ℕ → ℕ
-facts p N = up 8 (up 8 (up 2 (up 8 (up 8 (0 + p) + p) + p) + N * 2) + 8)
-
-facts_most : (p N : ℕ) → facts p N ≤ 3 * p + N * 2 + 60
-facts_most p N =
-    let a = most 8 (0 + p) (omega arith) in
-    let b = most 8 (up 8 (0 + p) + p) (omega arith) in
-    let c = most 2 (up 8 (up 8 (0 + p) + p) + p) (omega arith) in
-    let d = most 8 (up 2 (up 8 (up 8 (0 + p) + p) + p) + N * 2) (omega arith) in
-    let e = most 8 (up 8 (up 2 (up 8 (up 8 (0 + p) + p) + p) + N * 2) + 8) (omega arith) in
-    chain a b c d e
-  where
-    chain : {x y z w v : ℕ} → x ≤ 0 + p + 8 → y ≤ x + p + 8 → z ≤ y + p + 2 → w ≤ z + N * 2 + 8 → v ≤ w + 8 + 8 → v ≤ 3 * p + N * 2 + 60
-    chain a b c d e = omega arith
-
--- the relation: two tables, a set of a bytes, and a number
-abbrev relation : ℕ → ℕ → ℕ → ℕ → ℕ
-relation p T q a = up 8 (up 8 (up 8 (up 8 (0 + table p T q) + table p T q) + a) + 8)
-
-relation_most : (p T q a : ℕ) → relation p T q a ≤ 2 * (p + T * 2 + q) + a + 200
-relation_most p T q a =
-    let t = table_most p T q in
-    let x = most 8 (0 + table p T q) (omega arith) in
-    let y = most 8 (up 8 (0 + table p T q) + table p T q) (omega arith) in
-    let z = most 8 (up 8 (up 8 (0 + table p T q) + table p T q) + a) (omega arith) in
-    let w = most 8 (up 8 (up 8 (up 8 (0 + table p T q) + table p T q) + a) + 8) (omega arith) in
-    chain t x y z w
-  where
-    chain : {t x y z w : ℕ} → t ≤ p + T * 2 + q + 40 → x ≤ 0 + t + 8 → y ≤ x + t + 8 → z ≤ y + a + 8 → w ≤ z + 8 + 8 → w ≤ 2 * (p + T * 2 + q) + a + 200
-    chain a b c d e = omega arith
-
--- the walk: facts, relation, choices, a number and a bool
+-- the walk: facts, relation, T choices, and what the root is
 abbrev walk : ℕ → ℕ → ℕ → ℕ → ℕ → ℕ
-walk p N T q a = up 8 (up 1 (up 8 (up 4 (up 8 (0 + facts p N) + relation p T q a) + T * 16) + 8) + 1)
+walk p N T q a = up 8 (up 1 (up 8 (up 8 (0 + facts a N) + relation p q a) + vector 4 (T * 12)) + 1)
 
-walk_most : (p N T q a : ℕ) → p ≤ 65536 * 8200 → N ≤ 65536 → T < 2 ^ 32 → q ≤ 2 ^ 32 * 8200 → a ≤ 8200 → walk p N T q a < 2 ^ 63
+walk_most : (p N T q a : ℕ) → p ≤ 65536 * 8200 → N ≤ 65536 → T < 2 ^ 32 → q ≤ 2 ^ 32 * 8220 → a ≤ 8200 → walk p N T q a < 2 ^ 63
 walk_most p N T q a hp hN hT hq ha =
-    let f = facts_most p N in
-    let r = relation_most p T q a in
-    let x = most 8 (0 + facts p N) (omega arith) in
-    let y = most 4 (up 8 (0 + facts p N) + relation p T q a) (omega arith) in
-    let z = most 8 (up 4 (up 8 (0 + facts p N) + relation p T q a) + T * 16) (omega arith) in
-    let w = most 1 (up 8 (up 4 (up 8 (0 + facts p N) + relation p T q a) + T * 16) + 8) (omega arith) in
-    let v = most 8 (up 1 (up 8 (up 4 (up 8 (0 + facts p N) + relation p T q a) + T * 16) + 8) + 1) (omega arith) in
-    chain f r x y z w v
+    let f = facts_most a N ha hN in
+    let r = relation_most p q a in
+    let t = vector_most 4 (T * 12) (omega arith) (omega arith) in
+    let x = most 8 (0 + facts a N) (omega arith) in
+    let y = most 8 (up 8 (0 + facts a N) + relation p q a) (omega arith) in
+    let z = most 1 (up 8 (up 8 (0 + facts a N) + relation p q a) + vector 4 (T * 12)) (omega arith) in
+    let w = most 8 (up 1 (up 8 (up 8 (0 + facts a N) + relation p q a) + vector 4 (T * 12)) + 1) (omega arith) in
+    chain f r t x y z w
   where
-    chain : {f r x y z w v : ℕ} → f ≤ 3 * p + N * 2 + 60 → r ≤ 2 * (p + T * 2 + q) + a + 200 → x ≤ 0 + f + 8 → y ≤ x + r + 4 → z ≤ y + T * 16 + 8 → w ≤ z + 8 + 1 → v ≤ w + 1 + 8 → v < 2 ^ 63
-    chain f r x y z w v = omega arith
+    chain : {f r t x y z w : ℕ} → f ≤ 65536 * 24628 + 24 → r ≤ 2 * (p + q) + a + 200 → t ≤ T * 12 + 40 → x ≤ 0 + f + 8 → y ≤ x + r + 8 → z ≤ y + t + 1 → w ≤ z + 1 + 8 → w < 2 ^ 63
+    chain f r t x y z w = omega arith
 
--- the record of a case: six bytes for each of N events, a number, and p bytes of rows
-abbrev case : ℕ → ℕ → ℕ
-case p N = up 8 (up 8 (up 8 (0 + N * 6) + 8) + p)
-
-case_most : (p N : ℕ) → case p N ≤ N * 6 + p + 40
-case_most p N =
-    let a = most 8 (0 + N * 6) (omega arith) in
-    let b = most 8 (up 8 (0 + N * 6) + 8) (omega arith) in
-    let c = most 8 (up 8 (up 8 (0 + N * 6) + 8) + p) (omega arith) in
-    chain a b c
-  where
-    chain : {x y z : ℕ} → x ≤ 0 + N * 6 + 8 → y ≤ x + 8 + 8 → z ≤ y + p + 8 → z ≤ N * 6 + p + 40
-    chain a b c = omega arith
-
-module _ (N W T : ℕ) (wide : N ≤ 64 * W) (narrow : W ≤ 1024) where
-  row_most : up 8 (0 + W * 8) ≤ 8200
-  row_most = row (most 8 (0 + W * 8) (omega arith))
-    where
-      row : {x : ℕ} → x ≤ 0 + W * 8 + 8 → x ≤ 8200
-      row h = omega arith
-
-  rows_most : N * up 8 (0 + W * 8) ≤ 65536 * 8200
-  rows_most = mul-le-mul {n₁ = N} {m₁ = up 8 (0 + W * 8)} {n₂ = 65536} {m₂ = 8200} (omega arith) row_most
-
-  olds_most : T < 2 ^ 32 → T * up 8 (0 + W * 8) ≤ 2 ^ 32 * 8200
-  olds_most short = mul-le-mul {n₁ = T} {m₁ = up 8 (0 + W * 8)} {n₂ = 2 ^ 32} {m₂ = 8200} (omega arith) row_most
-
-  pub case_small : case (N * up 8 (0 + W * 8)) N < 2 ^ 63
-  case_small = chain (case_most _ N) rows_most
-    where
-      chain : {x p : ℕ} → x ≤ N * 6 + p + 40 → p ≤ 65536 * 8200 → x < 2 ^ 63
-      chain a b = omega arith
-
-  pub facts_small : facts (N * up 8 (0 + W * 8)) N < 2 ^ 63
-  facts_small = chain (facts_most _ N) rows_most
-    where
-      chain : {x p : ℕ} → x ≤ 3 * p + N * 2 + 60 → p ≤ 65536 * 8200 → x < 2 ^ 63
-      chain a b = omega arith
-
-  pub relation_small : T < 2 ^ 32 → relation (N * up 8 (0 + W * 8)) T (T * up 8 (0 + W * 8)) (up 8 (0 + W * 8)) < 2 ^ 63
-  relation_small short = chain (relation_most _ T _ _) rows_most (olds_most short) row_most
-    where
-      chain : {x p q a : ℕ} → x ≤ 2 * (p + T * 2 + q) + a + 200 → p ≤ 65536 * 8200 → q ≤ 2 ^ 32 * 8200 → a ≤ 8200 → x < 2 ^ 63
-      chain a b c d = omega arith
-
-  pub walk_small : T < 2 ^ 32 → walk (N * up 8 (0 + W * 8)) N T (T * up 8 (0 + W * 8)) (up 8 (0 + W * 8)) < 2 ^ 63
-  walk_small short = walk_most _ N T _ _ rows_most (omega arith) short (olds_most short) row_most
+pub walk_small : {N W T : ℕ} → Roomy N W T → walk (N * up 8 (0 + W * 8)) N T (T * up 8 (up 2 (0 + up 8 (0 + W * 8)) + 2)) (up 8 (0 + W * 8)) < 2 ^ 63
+walk_small {N} {W} {T} room =
+    let wide = room.wide in
+    let narrow = room.narrow in
+    walk_most _ N T _ _ (rows_most N W T wide narrow) (omega arith) room.short (trail_most N W T wide narrow room.short) (row_most N W T wide narrow)

@@ -1,58 +1,72 @@
 -- The way of a walk, and its moves.
-use Rattle.std.proofs.Common.{◌≡◌, ℕ, zero, suc, ◌+◌, ◌-◌, ◌<◌, ◌≤◌, min, Bool, true, false, cond, not, ◌≢◌, ◌⊎◌, List, [], ◌∷◌, length, get_or, set, MatchBool, sym, refl, ap, ◌∙◌, subst, inl, inr, add-one, arith, get_or-set_other, get_or-set_same}
-use Rattle.std.proofs.lemmas.Bool.{true≢false, cases_Bool}
+use Rattle.std.proofs.Common.{◌≡◌, ℕ, zero, suc, ◌+◌, ◌-◌, ◌<◌, ◌≤◌, min, Bool, true, false, cond, ◌⊎◌, Option, None, Some, Result, Ok, Err, is_ok, List, [], ◌∷◌, ◌++◌, length, reverse, get_or, slice_get, MatchOption, MatchResult, sym, refl, ap, ◌∙◌, subst, inl, inr, arith}
+use Rattle.std.proofs.lemmas.List.{reverse-append, length-reverse, get_or-reverse}
+use Rattle.std.proofs.lemmas.Option.{slice_get_past, slice_get-get_or}
+use Rattle.arrayvec.specs.ArrayVec.{array_vec_len}
+use Rattle.std.proofs.lemmas.Bool.{true≢false, cases_Bool, ltb-true, lt-ltb, le-ltb}
 use Rattle.order.specs.History.{History, count, Number, WellFormed, PairsOfEvents}
 use Rattle.order.specs.Before.{Before, Clash}
 use Rattle.order.specs.Search.{Search, Outcome, fails, Unordered, FirstUnordered}
 use Rattle.order.proofs.Ends.{grows, inside_more}
 use Rattle.order.proofs.Saturated.{before_numbers}
 use mathlib.Core.List.Memᴰ
-use Rattle.search.specs.Orders.{free, slack}
-use Rattle.search.specs.Relations.{earlier, Kept, mark_of, Marked, Undone}
-use Rattle.search.specs.Laws.{Closed}
-use Rattle.search.specs.Nodes.{Exact, FactsOf}
-use Rattle.search.specs.Adding.{Added, OpenFrom, FirstOpen, NoneOpen}
+use Rattle.sets.specs.Rows.{trail_len}
+use Rattle.saturation.specs.Orders.{free, slack, Roomy}
+use Rattle.saturation.specs.Relations.{earlier, Kept, mark_of, Marked, Undone}
+use Rattle.saturation.specs.Laws.{Closed}
+use Rattle.saturation.specs.Nodes.{Exact, FactsOf}
+use Rattle.saturation.specs.Adding.{Added, OpenFrom, FirstOpen, NoneOpen}
 use Rattle.search.specs.Tree.{Follows, Comes}
-use Rattle.search.specs.Walks.{latest, choices_of, node_of, waiting_of, from_of, Room, Way, Next, Ahead, Begins, Walking, Entered, Clashed, Successful}
-use Rattle.search.specs.declared.relation.Relation.{Relation}
-use Rattle.search.specs.declared.saturate.Facts.{Facts}
+use Rattle.search.specs.Walks.{choices_of, node_of, one_way, waiting_of, from_of, Room, Way, Along, Next, Ahead, Walking, Entered, Clashed, Successful}
+use Rattle.saturation.specs.declared.relation.Cycle.{Cycle}
+use Rattle.saturation.specs.declared.relation.Relation.{Relation}
+use Rattle.saturation.specs.declared.saturate.Facts.{Facts}
 use Rattle.search.specs.declared.walk.Choice.{Choice}
 use Rattle.search.specs.declared.walk.Walk.{Walk}
-use Rattle.search.specs.declared.relation.Mark.{Mark}
-use Rattle.search.proofs.Backs.{rows_under}
-use Rattle.search.proofs.Slacks.{free_from, slack_falls}
-use Rattle.search.proofs.Joins.{sound}
-use Rattle.search.proofs.Trails.{kept_same, kept_then}
+use Rattle.saturation.specs.declared.relation.Mark.{Mark}
+use Rattle.sets.proofs.Backs.{rows_under}
+use Rattle.saturation.proofs.Slacks.{free_from, slack_falls}
+use Rattle.saturation.proofs.Joins.{sound}
+use Rattle.saturation.proofs.Trails.{kept_same, kept_then}
 use Rattle.search.proofs.Trees.{comes_first_lem, comes_succeeded, comes_down, comes_more, Proper}
 
-abbrev none : Choice
-none = record { first = 0; second = 0; mark = record { after = 0; before = 0 }; last = false }
-
 abbrev turned : Choice → Choice
-turned c = record { first = c.second; second = c.first; mark = c.mark; last = true }
+turned c = record { first = c.second; second = c.first; mark = c.mark }
 
--- the latest choice, and those before it
-pub latest_top : (cs : List Choice) (k : ℕ) → 0 < k → latest cs k ≡ get_or cs (k - 1) none ∷ latest cs (k - 1)
-latest_top cs zero h = absurd (omega arith)
-latest_top cs (suc k) h = let e : suc k - 1 ≡ k = omega arith in rw e
+-- the second branch waits where the pair was tried one way only
+waiting_more : (S : List (ℕ × ℕ)) (c : Choice) (cs : List Choice) → c.first < c.second →
+    waiting_of S (c ∷ cs) ≡ record { pairs = node_of S cs; low = suc c.first; high = suc c.second } ∷ waiting_of S cs
+waiting_more S c cs l = let e = lt-ltb c.first c.second l in rw e
 
--- a choice behind the first k is none of them
-latest_other : (cs : List Choice) (k i : ℕ) (c : Choice) → k ≤ i → latest (set cs i c) k ≡ latest cs k
-latest_other cs zero i c h = refl
-latest_other cs (suc k) i c h =
-    let ne : k ≢ i = λ e. omega arith in
-    let here : get_or (set cs i c) k none ≡ get_or cs k none = rw get_or-set_other in
-    ap (λ x. x ∷ latest (set cs i c) k) here ∙ ap (λ l. get_or cs k none ∷ l) (latest_other cs k i c (omega arith))
+waiting_same : (S : List (ℕ × ℕ)) (c : Choice) (cs : List Choice) → c.second ≤ c.first → waiting_of S (c ∷ cs) ≡ waiting_of S cs
+waiting_same S c cs l = let e = le-ltb c.first c.second l in rw e
 
--- one choice more
-pub latest_put : (cs : List Choice) (k : ℕ) (c : Choice) → k < length cs → latest (set cs k c) (k + 1) ≡ c ∷ latest cs k
-latest_put cs k c h =
-    let here : get_or (set cs k c) k none ≡ c = rw get_or-set_same in
-    ap (latest (set cs k c)) (add-one k) ∙ ap (λ x. x ∷ latest (set cs k c) k) here ∙ ap (λ l. c ∷ l) (latest_other cs k k c (omega arith))
+-- a choice pushed is the latest
+pub latest_pushed : (xs : List Choice) (c : Choice) → reverse (xs ++ c ∷ []) ≡ c ∷ reverse xs
+latest_pushed xs c = reverse-append xs (c ∷ [])
 
-pub length_latest : (cs : List Choice) (k : ℕ) → length (latest cs k) ≡ k
-length_latest cs zero = refl
-length_latest cs (suc k) = ap suc (length_latest cs k)
+-- the last choice is the latest, if there is one
+pub latest_last : (xs ys : List Choice) (r : Option Choice) → ys ≡ xs → r ≡ slice_get ys (length ys - 1) →
+    MatchOption r (reverse xs ≡ []) (λ c. (cs : List Choice) × (reverse xs ≡ c ∷ cs))
+latest_last xs ys r same e = go r (reverse xs) refl (e ∙ ap (λ l. slice_get l (length l - 1)) same)
+  where
+    go : (r : Option Choice) (cs : List Choice) → reverse xs ≡ cs → r ≡ slice_get xs (length xs - 1) → MatchOption r (cs ≡ []) (λ c. (ds : List Choice) × (cs ≡ c ∷ ds))
+    go None [] n e = refl
+    go None (c ∷ cs) n e =
+        let l : length xs ≡ suc (length cs) = sym (length-reverse xs) ∙ ap length n in
+        let g = slice_get-get_or xs (length xs - 1) c (omega arith) in
+        cc
+    go (Some c) [] n e =
+        let l : length xs ≡ 0 = sym (length-reverse xs) ∙ ap length n in
+        let g = slice_get_past xs (length xs - 1) (omega arith) in
+        absurd (cc)
+    go (Some c) (d ∷ ds) n e =
+        let l : length xs ≡ suc (length ds) = sym (length-reverse xs) ∙ ap length n in
+        let g = slice_get-get_or xs (length xs - 1) d (omega arith) in
+        let f = get_or-reverse xs 0 d (omega arith) in
+        let z : length xs - 1 - 0 ≡ length xs - 1 = omega arith in
+        let h : get_or (reverse xs) 0 d ≡ d = ap (λ l. get_or l 0 d) n in
+        (ds, cc)
 
 number_of : (h : History) (x : ℕ) → x < count h → Number h (suc x)
 number_of h x l = record { low = omega arith; high = omega arith }
@@ -104,32 +118,35 @@ module _ {N W T : ℕ} (h : History) where
     way_pairs o [] p w = p
     way_pairs o (c ∷ cs) p w = inside_more (way_pairs o cs p w.1) (number_of h c.first w.0.first) (number_of h c.second w.0.second)
 
+    -- the relation of a walk replaced
+    abbrev with : (w : Walk N W T) → Relation N W T → Roomy N W T → Walk N W T
+    with w q x = record { facts = w.facts; relation = q; choices = w.choices; root = w.root; roomy = x }
+
     -- the first node
-    pub enter_first : (s : ℕ) (w : Walk N W T) → w.depth ≡ 0 → Walking h S s w → MatchBool (not w.clashed) (Entered h S s w) (Clashed h S s w)
-    enter_first s w e k =
-        let none : choices_of w ≡ [] = ap (latest w.choices) e in
-        go w.clashed none (subst (λ cs. Ahead h S w.clashed w.relation cs) none k.ahead)
+    pub enter_first : (s : ℕ) (w : Walk N W T) (x : Roomy N W T) → choices_of w ≡ [] → Walking h S s w →
+        MatchResult w.root (λ _. Entered h S s (with w w.relation x)) (λ _. Clashed h S s (with w w.relation x))
+    enter_first s w x none k = go w.root none (subst (λ cs. Ahead h S w.root w.relation cs) none k.ahead)
       where
-        go : (b : Bool) → choices_of w ≡ [] → MatchBool b (Clash h S) (Exact h S w.relation) → MatchBool (not b) (Entered h S s w) (Clashed h S s w)
-        go true none x = record { along = k.along; follows = k.comes 1 fails (Search.clash (subst (λ cs. Clash h (node_of S cs)) (sym none) x)) }
-        go false none x = record {
-          along = k.along;
-          exact = subst (λ cs. Exact h (node_of S cs) w.relation) (sym none) x;
+        along : Along h S (with w w.relation x)
+        along = record { well = k.along.well; pairs = k.along.pairs; facts = k.along.facts; way = k.along.way }
+
+        go : (r : Result Unit Cycle) → choices_of w ≡ [] → MatchResult r (λ _. Exact h S w.relation) (λ _. Clash h S) →
+            MatchResult r (λ _. Entered h S s (with w w.relation x)) (λ _. Clashed h S s (with w w.relation x))
+        go (Ok u) none e = record {
+          along = along;
+          exact = subst (λ cs. Exact h (node_of S cs) w.relation) (sym none) e;
           room = let n : length (choices_of w) ≡ 0 = ap length none in let a = (sound w.relation).afters in omega arith;
           lowest = subst (λ cs. OpenFrom h (node_of S cs) (from_of cs)) (sym none) (λ c d u. u.writes.first.number.low);
           comes = k.comes;
         }
-
-    -- the relation of a walk replaced
-    abbrev with : (w : Walk N W T) → Relation N W T → length w.choices ≡ T → w.depth ≤ T → Walk N W T
-    with w q x y = record { facts = w.facts; relation = q; choices = w.choices; depth = w.depth; clashed = w.clashed; sized = x; deep = y }
+        go (Err i) none e = record { along = along; follows = k.comes 1 fails (Search.clash (subst (λ cs. Clash h (node_of S cs)) (sym none) e)) }
 
     -- any other node
-    pub enter_next : (b : Bool) (s : ℕ) (w : Walk N W T) (q : Relation N W T) (x : length w.choices ≡ T) (y : w.depth ≤ T) (c : Choice) (cs : List Choice) →
-        choices_of w ≡ c ∷ cs → Added w.facts c.first c.second w.relation q b → Walking h S s w →
-        MatchBool b (Entered h S s (with w q x y)) (Clashed h S s (with w q x y))
-    enter_next true s w q x y c cs e a k =
-        let n : Next h (node_of S cs) (length cs) w.relation c = subst (λ l. Ahead h S w.clashed w.relation l) e k.ahead in
+    pub enter_next : (r : Result Unit Cycle) (s : ℕ) (w : Walk N W T) (q : Relation N W T) (x : Roomy N W T) (c : Choice) (cs : List Choice) →
+        choices_of w ≡ c ∷ cs → Added w.facts c.first c.second w.relation q (is_ok r) → Walking h S s w →
+        MatchResult r (λ _. Entered h S s (with w q x)) (λ _. Clashed h S s (with w q x))
+    enter_next (Ok u) s w q x c cs e a k =
+        let n : Next h (node_of S cs) (length cs) w.relation c = subst (λ l. Ahead h S w.root w.relation l) e k.ahead in
         let way : Way h S (c ∷ cs) w.relation = subst (λ l. Way h S l w.relation) e k.along.way in
         let p = way_pairs w.relation cs k.along.pairs way.1 in
         let more : Exact h (node_of S (c ∷ cs)) q = a.node h (node_of S cs) k.along.facts k.along.well p n.exact in
@@ -144,8 +161,8 @@ module _ {N W T : ℕ} (h : History) where
           lowest = subst (λ l. OpenFrom h (node_of S l) (from_of l)) (sym e) (λ d i u. n.lowest d i (unordered_less u));
           comes = k.comes;
         }
-    enter_next false s w q x y c cs e a k =
-        let n : Next h (node_of S cs) (length cs) w.relation c = subst (λ l. Ahead h S w.clashed w.relation l) e k.ahead in
+    enter_next (Err i) s w q x c cs e a k =
+        let n : Next h (node_of S cs) (length cs) w.relation c = subst (λ l. Ahead h S w.root w.relation l) e k.ahead in
         let way : Way h S (c ∷ cs) w.relation = subst (λ l. Way h S l w.relation) e k.along.way in
         let p = way_pairs w.relation cs k.along.pairs way.1 in
         let clash : Clash h (node_of S (c ∷ cs)) = a.node h (node_of S cs) k.along.facts k.along.well p n.exact in
@@ -156,10 +173,10 @@ module _ {N W T : ℕ} (h : History) where
 
     -- the first unordered pair is chosen
     pub descend_more : (s : ℕ) (w p : Walk N W T) (a b : ℕ) (cs : List Choice) → choices_of w ≡ cs →
-        choices_of p ≡ record { first = a; second = b; mark = mark_of w.relation; last = false } ∷ cs → p.relation ≡ w.relation → p.facts ≡ w.facts →
+        choices_of p ≡ record { first = a; second = b; mark = mark_of w.relation } ∷ cs → p.relation ≡ w.relation → p.facts ≡ w.facts →
         FirstOpen w.facts (from_of (choices_of w)) w.relation a b → Entered h S s w → Walking h S (s + 1) p
     descend_more s w p a b cs here there same facts f k =
-        let c : Choice = record { first = a; second = b; mark = mark_of w.relation; last = false } in
+        let c : Choice = record { first = a; second = b; mark = mark_of w.relation } in
         let node : Exact h (node_of S cs) w.relation = subst (λ l. Exact h (node_of S l) w.relation) here k.exact in
         let first : FirstUnordered h (node_of S cs) (suc a) (suc b) =
         subst (λ l. FirstUnordered h (node_of S l) (suc a) (suc b)) here (f.first h (node_of S (choices_of w)) k.along.facts k.exact k.lowest) in
@@ -183,9 +200,10 @@ module _ {N W T : ℕ} (h : History) where
             facts = subst (λ x. FactsOf h x) (sym facts) k.along.facts;
             way = subst (λ l. Way h S l p.relation) (sym there) (subst (λ o. Way h S (c ∷ cs) o) (sym same) more);
           };
-          ahead = subst (λ l. Ahead h S p.clashed p.relation l) (sym there) (subst (λ o. Next h (node_of S cs) (length cs) o c) (sym same) next);
+          ahead = subst (λ l. Ahead h S p.root p.relation l) (sym there) (subst (λ o. Next h (node_of S cs) (length cs) o c) (sym same) next);
           comes = subst (λ l. Comes h S (waiting_of S l) (node_of S l) (s + 1)) (sym there)
-              (comes_down h S (waiting_of S cs) (node_of S cs) (suc a) (suc b) s (subst (λ l. Comes h S (waiting_of S l) (node_of S l) s) here k.comes) calm first);
+              (subst (λ ws. Comes h S ws (node_of S (c ∷ cs)) (s + 1)) (sym (waiting_more S c cs f.lower))
+              (comes_down h S (waiting_of S cs) (node_of S cs) (suc a) (suc b) s (subst (λ l. Comes h S (waiting_of S l) (node_of S l) s) here k.comes) calm first));
         }
       where
         from_first : {d e : ℕ} → (suc a < d) ⊎ ((suc a ≡ d) × (suc b ≤ e)) → min a b < d
@@ -203,17 +221,17 @@ module _ {N W T : ℕ} (h : History) where
         }
 
     -- there is room for one choice more
-    pub descend_room : (s : ℕ) (w : Walk N W T) (k a b : ℕ) → FirstOpen w.facts k w.relation a b → Entered h S s w → w.depth < T
+    pub descend_room : (s : ℕ) (w : Walk N W T) (k a b : ℕ) → FirstOpen w.facts k w.relation a b → Entered h S s w → array_vec_len w.choices < T
     descend_room s w k a b f e =
-        let n = length_latest w.choices w.depth in
+        let n = length-reverse w.choices.items in
         let some = slack_falls (earlier w.relation) (λ x y. true) w.relation.count a b (omega (arith, f.lower, f.inside)) f.inside (λ x y _. refl) f.apart refl in
         omega (arith, e.room)
 
     -- the way back from a relation that was taken back
     kept_undone : (x b o q : Relation N W T) (m : Mark) → Kept x b → Kept b o → mark_of b ≡ m → Undone o q m → Kept x q
     kept_undone x b o q m k l e u =
-        let a : b.after.len ≡ q.after.len = ap (λ (n : Mark). n.after) (e ∙ sym u.marked) in
-        let c : b.before.len ≡ q.before.len = ap (λ (n : Mark). n.before) (e ∙ sym u.marked) in
+        let a : trail_len b.after ≡ trail_len q.after = ap (λ (n : Mark). n.after) (e ∙ sym u.marked) in
+        let c : trail_len b.before ≡ trail_len q.before = ap (λ (n : Mark). n.before) (e ∙ sym u.marked) in
         let all = kept_then x b o k l in
         record {
           events = sym u.kept.events ∙ l.events ∙ k.events;
@@ -268,11 +286,11 @@ module _ {N W T : ℕ} (h : History) where
 
     -- where both ways were tried, back
     pub retreat_on : (s : ℕ) (w p : Walk N W T) (c : Choice) (cs : List Choice) → choices_of w ≡ c ∷ cs → choices_of p ≡ cs → p.relation ≡ w.relation → p.facts ≡ w.facts →
-        c.last ≡ true → Clashed h S s w → Clashed h S s p
+        c.second ≤ c.first → Clashed h S s w → Clashed h S s p
     retreat_on s w p c cs here there same facts e k =
         let way : Way h S (c ∷ cs) w.relation = subst (λ l. Way h S l w.relation) here k.along.way in
         let f : Follows h S (waiting_of S (c ∷ cs)) (s + 1) fails = subst (λ l. Follows h S (waiting_of S l) (s + 1) fails) here k.follows in
-        let shorter : waiting_of S (c ∷ cs) ≡ waiting_of S cs = rw e in
+        let shorter : waiting_of S (c ∷ cs) ≡ waiting_of S cs = waiting_same S c cs e in
         record {
           along = record {
             well = k.along.well;
@@ -284,25 +302,36 @@ module _ {N W T : ℕ} (h : History) where
         }
 
     -- the relation leads back to where the other way round waits
-    pub retreat_marked : (s : ℕ) (w : Walk N W T) (c : Choice) (cs : List Choice) → choices_of w ≡ c ∷ cs → c.last ≡ false → Clashed h S s w → Marked w.relation c.mark
+    pub retreat_marked : (s : ℕ) (w : Walk N W T) (c : Choice) (cs : List Choice) → choices_of w ≡ c ∷ cs → c.first < c.second → Clashed h S s w → Marked w.relation c.mark
     retreat_marked s w c cs here e k =
         let way : Way h S (c ∷ cs) w.relation = subst (λ l. Way h S l w.relation) here k.along.way in
-        let b = way.0.back e in
+        let b = way.0.back (lt-ltb c.first c.second e) in
         (b.relation, (b.kept, b.marked))
+
+    -- there is room for the pair turned round
+    pub retreat_room : (s : ℕ) (w : Walk N W T) (c : Choice) (cs : List Choice) → choices_of w ≡ c ∷ cs → c.first < c.second → Clashed h S s w → length cs < T
+    retreat_room s w c cs here e k =
+        let way : Way h S (c ∷ cs) w.relation = subst (λ l. Way h S l w.relation) here k.along.way in
+        let b = way.0.back (lt-ltb c.first c.second e) in
+        let o = b.relation in
+        let events = b.exact.events in
+        let apart = apart_there (node_of S cs) o c.first c.second b.exact b.first.unordered in
+        let some = slack_falls (earlier o) (λ x y. true) o.count c.second c.first (omega (arith, way.0.second)) (omega (arith, way.0.first)) (λ x y _. refl) apart refl in
+        omega (arith, b.room)
 
     -- there the pair is turned round
     pub retreat_turn : (s : ℕ) (w p : Walk N W T) (c : Choice) (cs : List Choice) → choices_of w ≡ c ∷ cs → choices_of p ≡ turned c ∷ cs → p.facts ≡ w.facts →
-        Undone w.relation p.relation c.mark → c.last ≡ false → Clashed h S s w → Walking h S (s + 1) p
+        Undone w.relation p.relation c.mark → c.first < c.second → Clashed h S s w → Walking h S (s + 1) p
     retreat_turn s w p c cs here there facts u e k =
         let o = w.relation in
         let q = p.relation in
         let way : Way h S (c ∷ cs) o = subst (λ l. Way h S l o) here k.along.way in
-        let b = way.0.back e in
+        let b = way.0.back (lt-ltb c.first c.second e) in
         let f : Follows h S (waiting_of S (c ∷ cs)) (s + 1) fails = subst (λ l. Follows h S (waiting_of S l) (s + 1) fails) here k.follows in
-        let longer : waiting_of S (c ∷ cs) ≡ record { pairs = node_of S cs; low = suc c.first; high = suc c.second } ∷ waiting_of S cs = rw e in
+        let longer : waiting_of S (c ∷ cs) ≡ record { pairs = node_of S cs; low = suc c.first; high = suc c.second } ∷ waiting_of S cs = waiting_more S c cs e in
         let exact = exact_undone (node_of S cs) b.relation o q c.mark b.kept b.marked u b.exact in
         let more : Way h S (turned c ∷ cs) q =
-        (record { first = way.0.second; second = way.0.first; back = λ i. absurd (true≢false i) }, way_undone b.relation o q c.mark cs b.kept b.marked u b.on) in
+        (record { first = way.0.second; second = way.0.first; back = λ i. absurd (omega (arith, ltb-true c.second c.first i)) }, way_undone b.relation o q c.mark cs b.kept b.marked u b.on) in
         let next : Next h (node_of S cs) (length cs) q (turned c) = record {
           exact = exact;
           room = room_undone (length cs) b.relation o q c.mark b.kept b.marked u b.room;
@@ -316,8 +345,9 @@ module _ {N W T : ℕ} (h : History) where
             facts = subst (λ x. FactsOf h x) (sym facts) k.along.facts;
             way = subst (λ l. Way h S l q) (sym there) more;
           };
-          ahead = subst (λ l. Ahead h S p.clashed q l) (sym there) next;
-          comes = subst (λ l. Comes h S (waiting_of S l) (node_of S l) (s + 1)) (sym there) (subst (λ l. Follows h S l (s + 1) fails) longer f);
+          ahead = subst (λ l. Ahead h S p.root q l) (sym there) next;
+          comes = subst (λ l. Comes h S (waiting_of S l) (node_of S l) (s + 1)) (sym there)
+              (subst (λ ws. Comes h S ws (node_of S (turned c ∷ cs)) (s + 1)) (sym (waiting_same S (turned c) cs (omega arith))) (subst (λ l. Follows h S l (s + 1) fails) longer f));
         }
       where
         from_first : {d i : ℕ} → (suc c.first < d) ⊎ ((suc c.first ≡ d) × (suc c.second ≤ i)) → min c.second c.first < d
@@ -325,17 +355,17 @@ module _ {N W T : ℕ} (h : History) where
         from_first (inr r) = omega (arith, r.0)
 
     -- nothing waits
-    pub retreat_none : (s : ℕ) (w : Walk N W T) → w.depth ≡ 0 → Clashed h S s w → Search h S (s + 1) fails
-    retreat_none s w e k = subst (λ l. Follows h S (waiting_of S l) (s + 1) fails) (ap (latest w.choices) e) k.follows
+    pub retreat_none : (s : ℕ) (w : Walk N W T) → choices_of w ≡ [] → Clashed h S s w → Search h S (s + 1) fails
+    retreat_none s w none k = subst (λ l. Follows h S (waiting_of S l) (s + 1) fails) none k.follows
 
     -- the second branches that wait are nodes of the history
     pub way_proper : (o : Relation N W T) (cs : List Choice) → PairsOfEvents h S → Way h S cs o → Proper h S (waiting_of S cs)
     way_proper o [] p w = tt
-    way_proper o (c ∷ cs) p w = more (way_proper o cs p w.1) c.last
+    way_proper o (c ∷ cs) p w = more (way_proper o cs p w.1) (one_way c)
       where
-        more : Proper h S (waiting_of S cs) → (b : Bool) → Proper h S (cond b (waiting_of S cs) (record { pairs = node_of S cs; low = suc c.first; high = suc c.second } ∷ waiting_of S cs))
-        more rest true = rest
-        more rest false = (inside_more (way_pairs o cs p w.1) (number_of h c.second w.0.second) (number_of h c.first w.0.first), rest)
+        more : Proper h S (waiting_of S cs) → (b : Bool) → Proper h S (cond b (record { pairs = node_of S cs; low = suc c.first; high = suc c.second } ∷ waiting_of S cs) (waiting_of S cs))
+        more rest false = rest
+        more rest true = (inside_more (way_pairs o cs p w.1) (number_of h c.second w.0.second) (number_of h c.first w.0.first), rest)
 
     -- a walk that comes to a node has not visited all nodes
     pub walking_more : (s : ℕ) (w : Walk N W T) → Walking h S s w → (t : ℕ) (o : Outcome) → Search h S t o → s < t
@@ -345,19 +375,10 @@ module _ {N W T : ℕ} (h : History) where
         comes_more h S (waiting_of S cs) (node_of S cs) s a.well (way_pairs w.relation cs a.pairs a.way) (way_proper w.relation cs a.pairs a.way) k.comes
 
     -- a walk begins
-    pub begins_walking : (f : Facts N W) (o : Relation N W T) (b : Bool) (w : Walk N W T) → WellFormed h → PairsOfEvents h S → FactsOf h f →
-        MatchBool b (Clash h S) (Exact h S o) → Begins f o b w → Walking h S 0 w
-    begins_walking f o b w well pairs facts first e =
-        let none : choices_of w ≡ [] = ap (latest w.choices) e.none in
-        let there : MatchBool w.clashed (Clash h S) (Exact h S w.relation) =
-        subst (λ c. MatchBool c (Clash h S) (Exact h S w.relation)) (sym e.clash) (subst (λ q. MatchBool b (Clash h S) (Exact h S q)) (sym e.relation) first) in
+    pub begins_walking : (w : Walk N W T) → WellFormed h → PairsOfEvents h S → FactsOf h w.facts → MatchResult w.root (λ _. Exact h S w.relation) (λ _. Clash h S) → choices_of w ≡ [] → Walking h S 0 w
+    begins_walking w well pairs facts first none =
         record {
-          along = record {
-            well = well;
-            pairs = pairs;
-            facts = subst (λ x. FactsOf h x) (sym e.facts) facts;
-            way = subst (λ l. Way h S l w.relation) (sym none) tt;
-          };
-          ahead = subst (λ l. Ahead h S w.clashed w.relation l) (sym none) there;
+          along = record { well = well; pairs = pairs; facts = facts; way = subst (λ l. Way h S l w.relation) (sym none) tt };
+          ahead = subst (λ l. Ahead h S w.root w.relation l) (sym none) first;
           comes = subst (λ l. Comes h S (waiting_of S l) (node_of S l) 0) (sym none) (comes_first_lem h S);
         }

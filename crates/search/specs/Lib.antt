@@ -1,16 +1,3 @@
-pub mod Bits
-pub mod Sets
-pub mod Rows
-pub mod Orders
-pub mod Relations
-pub mod Laws
-pub mod Nodes
-pub mod Adding
 pub mod Tree
 pub mod Walks
 pub mod Searches
-pub mod Closures
-pub mod Histories
-pub mod Recorded
-pub mod Noting
-pub mod Rooting

@@ -1,37 +1,37 @@
 -- Where a walk through the nodes of a search is, and what it still has to come to.
-use Rattle.std.specs.Prelude.{◌≡◌, ℕ, zero, suc, ◌+◌, ◌*◌, ◌<◌, ◌≤◌, min, Bool, true, false, cond, List, [], ◌∷◌, length, MatchBool, slice_index_or}
+use Rattle.std.specs.Prelude.{◌≡◌, ℕ, suc, ◌+◌, ◌*◌, ◌<◌, ◌≤◌, min, Bool, true, cond, List, [], ◌∷◌, length, reverse, Result, MatchResult, nat_lt}
 use Rattle.order.specs.History.{History, count, WellFormed, PairsOfEvents}
 use Rattle.order.specs.Before.{Clash}
 use Rattle.order.specs.Search.{Search, fails, succeeds, FirstUnordered}
-use Rattle.search.specs.Orders.{free, slack}
-use Rattle.search.specs.Relations.{earlier, Kept, mark_of}
-use Rattle.search.specs.Nodes.{Exact, FactsOf}
-use Rattle.search.specs.Adding.{OpenFrom}
+use Rattle.saturation.specs.Orders.{free, slack}
+use Rattle.saturation.specs.Relations.{earlier, Kept, mark_of}
+use Rattle.saturation.specs.Nodes.{Exact, FactsOf}
+use Rattle.saturation.specs.Adding.{OpenFrom}
 use Rattle.search.specs.Tree.{Waiting, Follows, Comes}
-use Rattle.search.specs.declared.relation.Relation.{Relation}
-use Rattle.search.specs.declared.saturate.Facts.{Facts}
+use Rattle.saturation.specs.declared.relation.Cycle.{Cycle}
+use Rattle.saturation.specs.declared.relation.Relation.{Relation}
 use Rattle.search.specs.declared.walk.Choice.{Choice}
 use Rattle.search.specs.declared.walk.Walk.{Walk}
 use Rattle.search.specs.declared.walk.Progress.{Progress}
 use Rattle.search.specs.declared.walk.Progress.TheVariants.{Running, Succeeded, Failed}
 
--- The first k choices of a list, the latest first.
-abbrev pub latest : List Choice → ℕ → List Choice
-latest cs zero = []
-latest cs (suc k) = slice_index_or cs k (record { first = 0; second = 0; mark = record { after = 0; before = 0 }; last = false }) ∷ latest cs k
-
+-- The choices on the way, the latest first.
 abbrev pub choices_of : {N W T : ℕ} → Walk N W T → List Choice
-choices_of w = latest w.choices w.depth
+choices_of w = reverse w.choices.items
 
 -- The node that choices lead to from the pairs S: the chosen pairs in front of S.
 abbrev pub node_of : List (ℕ × ℕ) → List Choice → List (ℕ × ℕ)
 node_of S [] = S
 node_of S (c ∷ cs) = (suc c.first, suc c.second) ∷ node_of S cs
 
+-- The lower event comes first: the other way round was not tried yet.
+abbrev pub one_way : Choice → Bool
+one_way c = nat_lt c.first c.second
+
 -- The nodes on the way whose second branch waits, the latest first.
 abbrev pub waiting_of : List (ℕ × ℕ) → List Choice → List Waiting
 waiting_of S [] = []
-waiting_of S (c ∷ cs) = cond c.last (waiting_of S cs) (record { pairs = node_of S cs; low = suc c.first; high = suc c.second } ∷ waiting_of S cs)
+waiting_of S (c ∷ cs) = cond (one_way c) (record { pairs = node_of S cs; low = suc c.first; high = suc c.second } ∷ waiting_of S cs) (waiting_of S cs)
 
 -- The lower event of the latest choice.
 abbrev pub from_of : List Choice → ℕ
@@ -57,7 +57,7 @@ pub record Back {N W T : ℕ} (h : History) (S : List (ℕ × ℕ)) (k : ℕ) (o
 pub record Chosen {N W T : ℕ} (h : History) (S : List (ℕ × ℕ)) (k : ℕ) (o : Relation N W T) (c : Choice) (On : Relation N W T → Type 0) : Type 0 where
   pub first : c.first < count h
   pub second : c.second < count h
-  pub back : c.last ≡ false → Back h S k o c On
+  pub back : one_way c ≡ true → Back h S k o c On
 
 -- That is so of each choice on the way.
 abbrev pub Way : {N W T : ℕ} → History → List (ℕ × ℕ) → List Choice → Relation N W T → Type 0
@@ -79,14 +79,14 @@ pub record Next {N W T : ℕ} (h : History) (S : List (ℕ × ℕ)) (k : ℕ) (o
   pub lowest : OpenFrom h S (min c.first c.second)
 
 -- The relation is that of the node before the one that comes next; at the first node, it is that node's unless it has a clash.
-abbrev pub Ahead : {N W T : ℕ} → History → List (ℕ × ℕ) → Bool → Relation N W T → List Choice → Type 0
-Ahead h S clashed o [] = MatchBool clashed (Clash h S) (Exact h S o)
-Ahead h S clashed o (c ∷ cs) = Next h (node_of S cs) (length cs) o c
+abbrev pub Ahead : {N W T : ℕ} → History → List (ℕ × ℕ) → Result Unit Cycle → Relation N W T → List Choice → Type 0
+Ahead h S root o [] = MatchResult root (λ _. Exact h S o) (λ _. Clash h S)
+Ahead h S root o (c ∷ cs) = Next h (node_of S cs) (length cs) o c
 
 -- The walk has visited s nodes, and comes to the node that its choices lead to.
 pub record Walking {N W T : ℕ} (h : History) (S : List (ℕ × ℕ)) (s : ℕ) (w : Walk N W T) : Type 0 where
   pub along : Along h S w
-  pub ahead : Ahead h S w.clashed w.relation (choices_of w)
+  pub ahead : Ahead h S w.root w.relation (choices_of w)
   pub comes : Comes h S (waiting_of S (choices_of w)) (node_of S (choices_of w)) s
 
 -- The walk has come to a node without a clash, and the relation is that node's.
@@ -106,13 +106,6 @@ pub record Clashed {N W T : ℕ} (h : History) (S : List (ℕ × ℕ)) (s : ℕ)
 pub record Successful {N W T : ℕ} (h : History) (S : List (ℕ × ℕ)) (s : ℕ) (w : Walk N W T) : Type 0 where
   pub search : Search h S s (succeeds (node_of S (choices_of w)))
   pub exact : Exact h (node_of S (choices_of w)) w.relation
-
--- The walk has these facts and this relation, and no choice.
-pub record Begins {N W T : ℕ} (f : Facts N W) (o : Relation N W T) (clashed : Bool) (w : Walk N W T) : Type 0 where
-  pub facts : w.facts ≡ f
-  pub relation : w.relation ≡ o
-  pub clash : w.clashed ≡ clashed
-  pub none : w.depth ≡ 0
 
 -- There is a history, with pairs that stand, that this is a walk for.
 abbrev pub Walks : {N W T : ℕ} → Walk N W T → Type 0

@@ -1,7 +1,8 @@
 //! A search that can be stopped and gone on with.
-ghost use Rattle.std.specs.Prelude.{ℕ, List};
+ghost use Rattle.std.specs.Prelude.{◌≢◌, ℕ, List};
 ghost use Rattle.order.specs.History.{History};
 ghost use Rattle.search.specs.Walks.{After};
+ghost use Rattle.search.specs.declared.walk.Progress.TheVariants.{Failed};
 
 use crate::walk::{Progress, Walk};
 
@@ -13,5 +14,5 @@ pub struct Search<const N: usize, const W: usize, const T: usize> {
     walk: Walk<N, W, T>,
     steps: u32,
     progress: Progress,
-    ghost sound: { ∥ ((h : History) × (S : List (ℕ × ℕ)) × After h S steps walk progress) ∥₁ },
+    ghost sound: { progress ≢ Failed → ∥ ((h : History) × (S : List (ℕ × ℕ)) × After h S steps walk progress) ∥₁ },
 }

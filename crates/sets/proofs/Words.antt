@@ -202,3 +202,12 @@ low_none (suc f) n j l =
                 rw e at (low_none f (n / 2) (j - 1) (omega arith))
           ]
     ]
+
+-- words that are made one by one, where two words of 0 make 0
+pub word_by_word : (f : ℕ → ℕ → ℕ) (n : ℕ) (ws vs us : List ℕ) → f 0 0 ≡ 0 → length ws ≡ n → length vs ≡ n → length us ≡ n
+    → ((i : ℕ) → i < n → get_or us i 0 ≡ f (get_or ws i 0) (get_or vs i 0)) → (i : ℕ) → get_or us i 0 ≡ f (get_or ws i 0) (get_or vs i 0)
+word_by_word f n ws vs us none lw lv lu by i =
+    elim (cases_lt i n) [
+      | inl l ↦ by i l
+      | inr l ↦ rw (get_or_past ws i 0 (omega arith), get_or_past vs i 0 (omega arith), get_or_past us i 0 (omega arith)) (sym none)
+    ]

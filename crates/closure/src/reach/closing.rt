@@ -1,13 +1,13 @@
 //! The two rules on a closure, followed to the end whatever clashes.
 ghost use Rattle.std.specs.Prelude.{◌≡◌, true, ◌⊎◌};
-ghost use Rattle.order.specs.History.{PairsOfEvents};
 ghost use Rattle.sets.specs.Rows.{in_rows};
+ghost use Rattle.saturation.specs.Ties.{takers_of};
 ghost use Rattle.saturation.specs.Laws.{Closed, Sources, Readers, Settled};
 ghost use Rattle.saturation.specs.Recorded.{history_in};
 ghost use Rattle.closure.specs.Closures.{earlier, waits, Raised, Ready, Finished, Fits, After, Leads, ExactHere};
 
 use super::Closure;
-use saturation::{Facts, Recorded};
+use saturation::{Facts, Stipulated};
 use sets::EventSet;
 
 impl<const N: usize, const W: usize> Closure<N, W> {
@@ -17,15 +17,15 @@ impl<const N: usize, const W: usize> Closure<N, W> {
         ensures raised { Raised (Closed facts.now) self.old self.new }
         ensures rule { Sources facts.now w (earlier self.old) (earlier self.new) }
     {
-        let mut reads = self.successors(w).intersection(&facts.others(w));
+        let mut reads = self.successors(w).intersection(&facts.ties(w).others);
         while let Some(r) = reads.pop() {
-            self.link(w, facts.source(r));
+            self.link(w, facts.ties(r).from as usize);
         }
     }
 
     /// The read `r`, which takes from `w`, before each of the writes that are listed.
     fn lead(&mut self, facts: &Facts<N, W>, w: usize, r: usize, later: &EventSet<W>)
-        requires inside { Fits facts.now self.old w × (in_rows facts.now.takers w r ≡ true) }
+        requires inside { Fits facts.now self.old w × (in_rows (takers_of facts.now.ties) w r ≡ true) }
         requires listed { After facts.now self.old w later.now }
         ensures raised { Raised (Closed facts.now) self.old self.new }
         ensures rule { Leads r later.now self.new }
@@ -42,8 +42,8 @@ impl<const N: usize, const W: usize> Closure<N, W> {
         ensures raised { Raised (Closed facts.now) self.old self.new }
         ensures rule { Readers facts.now w (earlier self.old) (earlier self.new) }
     {
-        let later = self.successors(w).intersection(&facts.mates(w));
-        let mut takers = facts.takers(w);
+        let later = self.successors(w).intersection(&facts.ties(w).mates);
+        let mut takers = facts.ties(w).takers;
         while let Some(r) = takers.pop() {
             self.lead(facts, w, r, &later);
         }
@@ -71,14 +71,13 @@ impl<const N: usize, const W: usize> Closure<N, W> {
     }
 
     /// All that is before one another with these pairs standing.
-    pub fn of(case: &Recorded<N, W>, pairs: &[(u16, u16)]) -> Closure<N, W>
-        requires { PairsOfEvents (history_in case.now) pairs.now }
-        ensures { ExactHere (history_in case.now) pairs.now result }
+    pub fn of(given: Stipulated<'_, N, W>) -> Closure<N, W>
+        ensures { ExactHere (history_in given.entry.record.now) given.entry.pairs.now result }
     {
-        let facts = Facts::of(case);
-        let mut closure = Closure::new(case.count());
-        closure.link_events(case);
-        closure.link_pairs(pairs);
+        let facts = Facts::of(given.record);
+        let mut closure = Closure::new(given.record.count());
+        closure.link_events(given.record);
+        closure.link_pairs(given.pairs);
         closure.saturate(&facts);
         closure
     }

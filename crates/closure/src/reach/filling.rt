@@ -1,6 +1,8 @@
 //! How pairs that are given go into a closure.
 ghost use Rattle.std.specs.Prelude.{◌≡◌, ℕ, ◌<◌, true};
 ghost use Rattle.sets.specs.Sets.{has};
+ghost use Rattle.saturation.specs.Recorded.{history_in};
+ghost use Rattle.order.specs.History.{count};
 ghost use Rattle.saturation.specs.Rooting.{PairsUpTo};
 ghost use Rattle.closure.specs.Closures.{earlier, Raised, HasRow, HasEvents, HasPairs};
 
@@ -24,10 +26,11 @@ impl<const N: usize, const W: usize> Closure<N, W> {
 
     /// Puts each event before those that the record puts after it outright.
     pub fn link_events(&mut self, case: &Recorded<N, W>)
-        requires { case.now.count ≡ self.old.count }
+        requires { count (history_in case.now) ≡ self.old.count }
         ensures linked { HasEvents case.now (earlier self.new) }
         ensures raised { Raised (HasEvents case.now) self.old self.new }
     {
+        // x is an event, and no element of a list: its row is made from the whole record.
         for x in 0..self.count {
             self.link_row(x, &case.followers(x));
         }
@@ -39,8 +42,8 @@ impl<const N: usize, const W: usize> Closure<N, W> {
         ensures linked { HasPairs pairs.now (earlier self.new) }
         ensures raised { Raised (HasPairs pairs.now) self.old self.new }
     {
-        for pair in pairs {
-            self.link(pair.0 as usize - 1, pair.1 as usize - 1);
+        for &(a, b) in pairs {
+            self.link(a as usize - 1, b as usize - 1);
         }
     }
 }

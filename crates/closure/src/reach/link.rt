@@ -51,12 +51,12 @@ impl<const N: usize, const W: usize> Closure<N, W> {
     pub fn lowest_clash(&self) -> Option<usize>
         ensures { MatchOption result (Calm self.now) (Lowest self.now) }
     {
-        for x in 0..self.count {
-            if self.precedes(x, x) {
-                return Some(x);
-            }
-        }
-        None
+        (0..self.count).find(
+            |&x|
+                requires { x < N }
+                ensures { result ≡ earlier self.entry.now x x }
+            { self.after[x].contains(x) },
+        )
     }
 
     /// Adds the pair of `u` and `v` and all that follows by chains. What has new successors waits.
@@ -122,8 +122,6 @@ fn widen<const N: usize, const W: usize>(
 {
     let mut rest = *which;
     while let Some(x) = rest.pop() {
-        let mut row = rows[x];
-        row.union_with(more);
-        rows[x] = row;
+        rows[x].union_with(more);
     }
 }

@@ -1,54 +1,36 @@
-use Rattle.std.proofs.Common.{◌≡◌, ℕ, ◌+◌, ◌<◌, length, get_or, replicate, sym, ap, ◌∙◌, subst, arith, length-set, get_or-set_other}
-use lib.ListN.{length-replicate}
+use Rattle.std.proofs.Common.{◌≡◌, ℕ, ◌+◌, List, length, sym, ap, ◌∙◌, subst, arith}
+use Rattle.std.proofs.lemmas.List.{length-append}
 use Rattle.sets.specs.declared.set.EventSet.{EventSet}
-use Rattle.sets.proofs.Words.{get_or_zeros}
-use Rattle.placing.proofs.Following.{AllSoFar, none_yet, all_one_more, all_some_next, all_placed}
+use Rattle.placing.proofs.Following.{AllSoFar, all_one_more, all_some_next, all_placed}
 use Rattle.placing.proofs.place.Invariants.{passed}
 use Rattle.placing.proofs.place.Goals as goal
 use Rattle.placing.proofs.place.Goals.{in-Some, in_default}
 
-pub loop-k-init : goal.loop-k-init
-loop-k-init g c =
-    let f = passed g c.args.preference.now in (
-      length-replicate g.row.N 0,
-      none_yet f c.args.events.now c.args.rows.now (replicate g.row.N 0) c.new-placed.result c.new-placed.ensures,
-      λ j l. get_or_zeros g.row.N j,
-    )
-
-pub loop-k-preserved : goal.loop-k-preserved
-loop-k-preserved g c =
+pub loop-preserved : goal.loop-preserved
+loop-preserved g c =
     let f = passed g c.args.preference.now in
     let es = c.args.events.now in
     let rows = c.args.rows.now in
-    let n = c.loop-k.order in
-    let p = c.loop-k.placed in
-    let k : ℕ = c.loop-k.k in
-    let l = c.loop-k-test.true in
-    let long : c.loop-k.k < length c.loop-k.order = omega arith in
+    let order = c.loop.order.items in
+    let placed = c.loop.placed in
+    let k : ℕ = c.loop.counter in
+    let so_far = c.loop.invariant.so_far in
+    let SoFar : List ℕ → EventSet g.row.W → Type 0 = AllSoFar f es rows (c.loop.counter + 1) in
     elim c.match-next.branch [
-      | in-Some w ↦
-          let o : ℕ = w.in-Some.x + 1 in (
-            ap length w.order-is ∙ length-set n k o ∙ c.loop-k.invariant.0,
-            subst (λ (q : EventSet g.row.W). AllSoFar f es rows (c.loop-k.k + 1) c.match-next.order q) (sym w.placed-is)
-                (subst (λ m. AllSoFar f es rows (c.loop-k.k + 1) m w.insert.new.self) (sym w.order-is)
-                (all_one_more f es rows k l n p c.loop-k.invariant.1 w.in-Some.x w.in-Some.ensures long w.insert.new.self w.insert.ensures)),
-            λ j u. ap (λ m. get_or m j 0) w.order-is ∙ get_or-set_other n k j o 0 (λ e. omega arith) ∙ c.loop-k.invariant.2 j (omega arith),
-          )
-      | in_default w ↦ (
-        ap length w.order-is ∙ c.loop-k.invariant.0,
-        subst (λ (q : EventSet g.row.W). AllSoFar f es rows (c.loop-k.k + 1) c.match-next.order q) (sym w.placed-is)
-            (subst (λ m. AllSoFar f es rows (c.loop-k.k + 1) m p) (sym w.order-is) (all_some_next f es rows k l n p c.loop-k.invariant.1 w.in_default.ensures)),
-        λ j u. ap (λ m. get_or m j 0) w.order-is ∙ c.loop-k.invariant.2 j (omega arith),
-      )
+      | in-Some w ↦ record {
+        few = omega (arith, ap (λ (v : _). length v.items) w.order-is, ap length w.push.ensures.items, length-append {A = ℕ});
+        so_far = rw (w.order-is, w.placed-is, w.push.ensures.items)
+            (all_one_more f es rows k c.loop-test.true order placed so_far w.in-Some.x w.in-Some.ensures w.insert.new.self w.insert.ensures);
+      }
+      | in_default w ↦ record {
+        few = omega (arith, ap (λ (v : _). length v.items) w.order-is);
+        so_far = rw (w.order-is, w.placed-is) (all_some_next f es rows k c.loop-test.true order placed so_far w.in_default.ensures);
+      }
     ]
 
-pub returns : goal.returns
-returns g c =
+pub returns-clause-placed : goal.returns-clause-placed
+returns-clause-placed g c =
     let f = passed g c.args.preference.now in
-    let e : c.loop-k.k ≡ length c.args.events.now = omega arith in
-    let s : AllSoFar f c.args.events.now c.args.rows.now (length c.args.events.now) c.loop-k.order c.loop-k.placed
-    = subst (λ k. AllSoFar f c.args.events.now c.args.rows.now k c.loop-k.order c.loop-k.placed) e c.loop-k.invariant.1 in
-    record {
-      placed = all_placed f c.args.events.now c.args.rows.now c.loop-k.order c.loop-k.placed (omega arith) s;
-      rest = λ k l. c.loop-k.invariant.2 k (omega arith);
-    }
+    let es = c.args.events.now in
+    let e : c.loop.counter ≡ length es = omega arith in
+    all_placed f es c.args.rows.now c.loop.order.items c.loop.placed (subst (λ k. AllSoFar f es c.args.rows.now k c.loop.order.items c.loop.placed) e c.loop.invariant.so_far)

@@ -1,11 +1,11 @@
 //! What a relation has, and how a pair is added.
-ghost use Rattle.std.specs.Prelude.{◌≡◌, ℕ, ◌<◌, ◌≤◌, Bool, true, false, not, ◌&&◌, ◌||◌, length, MatchBool, MatchOption};
+ghost use Rattle.std.specs.Prelude.{◌≡◌, ℕ, ◌<◌, ◌≤◌, Bool, true, false, not, ◌&&◌, ◌||◌, length, MatchOption, MatchResult};
 ghost use Rattle.sets.specs.Sets.{has};
 ghost use Rattle.sets.specs.Rows.{in_row, in_rows};
 ghost use Rattle.saturation.specs.Orders.{free, Roomy};
 ghost use Rattle.saturation.specs.Relations.{earlier, waits, Idle, Linked, Refused, Spans};
 
-use super::{Relation, Span};
+use super::{Cycle, Relation, Span};
 use sets::{EventSet, Table};
 
 impl<const N: usize, const W: usize, const T: usize> Relation<N, W, T> {
@@ -76,27 +76,26 @@ impl<const N: usize, const W: usize, const T: usize> Relation<N, W, T> {
         ensures rows { (x y : ℕ) → in_rows result y x ≡ earlier self.now x y }
         ensures each { length result ≡ N }
     {
+        // Copied into rows of its own: the borrow checker does not cover `*self.before.rows()` yet.
         let mut rows = [EventSet::new(); N];
-        for y in 0..N {
-            rows[y] = self.predecessors(y);
-        }
+        rows.copy_from_slice(self.before.rows());
         rows
     }
 
-    /// Adds the pair of `u` and `v` and all that follows by chains, and says yes; where that would close a cycle
-    /// it changes nothing, and says no.
-    pub fn link(&mut self, u: usize, v: usize) -> bool
+    /// Adds the pair of `u` and `v` and all that follows by chains. Where that would close a cycle it changes
+    /// nothing.
+    pub fn link(&mut self, u: usize, v: usize) -> Result<(), Cycle>
         requires { (u < self.old.count) × (v < self.old.count) }
-        ensures { MatchBool result (Linked u v self.old self.new) (Refused u v self.old self.new) }
+        ensures { MatchResult result (λ _. Linked u v self.old self.new) (λ _. Refused u v self.old self.new) }
     {
         if self.after.contains(u, v) {
-            return true;
+            return Ok(());
         }
         if u == v || self.after.contains(v, u) {
-            return false;
+            return Err(Cycle);
         }
         self.join(u, v);
-        true
+        Ok(())
     }
 
     /// What the pair of `u` and `v` touches.

@@ -1,9 +1,10 @@
 //! How the facts are filled in.
 ghost use Rattle.std.specs.Prelude.{◌≡◌, ℕ, ◌*◌, ◌<◌, ◌≤◌, Bool, true, false, ◌&&◌, ◌||◌, slice_set};
 ghost use Rattle.sets.specs.Rows.{PutIn};
+ghost use Rattle.saturation.specs.Ties.{others_of, mates_of, takers_of, from_of};
 ghost use Rattle.saturation.specs.Laws.{Blank};
 
-use super::Facts;
+use super::{Facts, Ties};
 use sets::EventSet;
 
 impl<const N: usize, const W: usize> Facts<N, W> {
@@ -13,51 +14,49 @@ impl<const N: usize, const W: usize> Facts<N, W> {
         ensures count { result.count ≡ count }
         ensures blank { Blank result }
     {
-        let empty = EventSet::new();
+        let none = Ties {
+            others: EventSet::new(),
+            mates: EventSet::new(),
+            takers: EventSet::new(),
+            from: 0,
+        };
         Facts {
-            others: [empty; N],
-            mates: [empty; N],
-            takers: [empty; N],
-            from: [0; N],
+            ties: [none; N],
             count,
         }
     }
 
+    // Three functions: each keeps another invariant of `Facts`, which `note` would have to keep in place.
+
     /// Says that `q` is another write of the star of the write `w`.
-    pub fn add_mate(&mut self, w: usize, q: usize)
+    pub(crate) fn add_mate(&mut self, w: usize, q: usize)
         requires { (w < self.old.count) × (q < self.old.count) }
-        ensures mates { PutIn self.old.mates self.new.mates w q }
-        ensures rest { (self.new.others ≡ self.old.others) × (self.new.takers ≡ self.old.takers) }
-        ensures same { (self.new.from ≡ self.old.from) × (self.new.count ≡ self.old.count) }
+        ensures mates { PutIn (mates_of self.old.ties) (mates_of self.new.ties) w q }
+        ensures rest { (others_of self.new.ties ≡ others_of self.old.ties) × (takers_of self.new.ties ≡ takers_of self.old.ties) }
+        ensures same { (from_of self.new.ties ≡ from_of self.old.ties) × (self.new.count ≡ self.old.count) }
     {
-        let mut row = self.mates[w];
-        row.insert(q);
-        self.mates[w] = row;
+        self.ties[w].mates.insert(q);
     }
 
     /// Says that the read `r` takes from the write `w`.
-    pub fn add_taker(&mut self, w: usize, r: usize)
+    pub(crate) fn add_taker(&mut self, w: usize, r: usize)
         requires { (w < self.old.count) × (r < self.old.count) }
-        ensures takers { PutIn self.old.takers self.new.takers w r }
-        ensures source { self.new.from ≡ slice_set self.old.from r w }
-        ensures rest { (self.new.others ≡ self.old.others) × (self.new.mates ≡ self.old.mates) }
+        ensures takers { PutIn (takers_of self.old.ties) (takers_of self.new.ties) w r }
+        ensures source { from_of self.new.ties ≡ slice_set (from_of self.old.ties) r w }
+        ensures rest { (others_of self.new.ties ≡ others_of self.old.ties) × (mates_of self.new.ties ≡ mates_of self.old.ties) }
         ensures same { self.new.count ≡ self.old.count }
     {
-        let mut row = self.takers[w];
-        row.insert(r);
-        self.takers[w] = row;
-        self.from[r] = w as u16;
+        self.ties[w].takers.insert(r);
+        self.ties[r].from = w as u16;
     }
 
     /// Says that the read `r` is of the star of the write `w`, and takes from another write.
-    pub fn add_other(&mut self, w: usize, r: usize)
+    pub(crate) fn add_other(&mut self, w: usize, r: usize)
         requires { (w < self.old.count) × (r < self.old.count) }
-        ensures others { PutIn self.old.others self.new.others w r }
-        ensures rest { (self.new.mates ≡ self.old.mates) × (self.new.takers ≡ self.old.takers) }
-        ensures same { (self.new.from ≡ self.old.from) × (self.new.count ≡ self.old.count) }
+        ensures others { PutIn (others_of self.old.ties) (others_of self.new.ties) w r }
+        ensures rest { (mates_of self.new.ties ≡ mates_of self.old.ties) × (takers_of self.new.ties ≡ takers_of self.old.ties) }
+        ensures same { (from_of self.new.ties ≡ from_of self.old.ties) × (self.new.count ≡ self.old.count) }
     {
-        let mut row = self.others[w];
-        row.insert(r);
-        self.others[w] = row;
+        self.ties[w].others.insert(r);
     }
 }

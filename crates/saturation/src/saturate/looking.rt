@@ -2,40 +2,19 @@
 ghost use Rattle.std.specs.Prelude.{◌≡◌, ℕ, ◌<◌, slice_index};
 ghost use Rattle.sets.specs.Sets.{has};
 ghost use Rattle.sets.specs.Rows.{in_rows};
+ghost use Rattle.saturation.specs.Ties.{others_of, mates_of, takers_of, from_of};
 
-use super::Facts;
-use sets::EventSet;
+use super::{Facts, Ties};
 
 impl<const N: usize, const W: usize> Facts<N, W> {
-    /// The reads of the star of the write `w` that take from another write.
-    pub fn others(&self, w: usize) -> EventSet<W>
-        requires { w < N }
-        ensures { (r : ℕ) → has result r ≡ in_rows self.now.others w r }
+    /// What the event `x` has to do with others.
+    pub fn ties(&self, x: usize) -> &Ties<W>
+        requires { x < N }
+        ensures others { (r : ℕ) → has result.now.others r ≡ in_rows (others_of self.now.ties) x r }
+        ensures mates { (q : ℕ) → has result.now.mates q ≡ in_rows (mates_of self.now.ties) x q }
+        ensures takers { (r : ℕ) → has result.now.takers r ≡ in_rows (takers_of self.now.ties) x r }
+        ensures from { result.now.from ≡ slice_index (from_of self.now.ties) x }
     {
-        self.others[w]
-    }
-
-    /// The other writes of the star of the write `w`.
-    pub fn mates(&self, w: usize) -> EventSet<W>
-        requires { w < N }
-        ensures { (q : ℕ) → has result q ≡ in_rows self.now.mates w q }
-    {
-        self.mates[w]
-    }
-
-    /// The reads that take from the write `w`.
-    pub fn takers(&self, w: usize) -> EventSet<W>
-        requires { w < N }
-        ensures { (r : ℕ) → has result r ≡ in_rows self.now.takers w r }
-    {
-        self.takers[w]
-    }
-
-    /// The write that the read `r` takes from.
-    pub fn source(&self, r: usize) -> usize
-        requires { r < N }
-        ensures { result ≡ slice_index self.now.from r }
-    {
-        self.from[r] as usize
+        &self.ties[x]
     }
 }

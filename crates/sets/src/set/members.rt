@@ -1,5 +1,5 @@
 //! What a set has, and how it is changed.
-ghost use Rattle.std.specs.Prelude.{◌≡◌, ℕ, ◌*◌, ◌<◌, ◌≤◌, Bool, true, false, not, ◌&&◌, ◌||◌, Decides, MatchOption, ◌==◌};
+ghost use Rattle.std.specs.Prelude.{◌≡◌, ◌≢◌, ℕ, ◌*◌, ◌<◌, ◌≤◌, Bool, true, false, not, ◌&&◌, ◌||◌, Decides, MatchOption, ◌==◌, slice_index};
 ghost use Rattle.sets.specs.Sets.{has, Empty, Meets, Popped};
 
 use super::EventSet;
@@ -32,29 +32,31 @@ impl<const W: usize> EventSet<W> {
     pub fn union_with(&mut self, other: &EventSet<W>)
         ensures { (j : ℕ) → has self.new j ≡ (has self.old j || has other.now j) }
     {
-        for i in 0..W {
-            self.words[i] |= other.words[i];
-        }
+        *self = self.combined(other, |a, b| a | b);
     }
 
     /// The events that are in both sets.
     pub fn intersection(&self, other: &EventSet<W>) -> EventSet<W>
         ensures { (j : ℕ) → has result j ≡ (has self.now j && has other.now j) }
     {
-        let mut words = self.words;
-        for i in 0..W {
-            words[i] &= other.words[i];
-        }
-        EventSet { words }
+        self.combined(other, |a, b| a & b)
     }
 
     /// The events of this set that the other does not have.
     pub fn difference(&self, other: &EventSet<W>) -> EventSet<W>
         ensures { (j : ℕ) → has result j ≡ (has self.now j && not (has other.now j)) }
     {
+        self.combined(other, |a, b| a ^ (a & b))
+    }
+
+    /// The set whose words the closure makes of the two sets' words.
+    fn combined<F: Fn(u64, u64) -> u64>(&self, other: &EventSet<W>, join: F) -> EventSet<W>
+        requires { F.IsAlwaysCallable join }
+        ensures { (i : ℕ) → i < W → F.post join (slice_index self.now.words i) (slice_index other.now.words i) (slice_index result.words i) }
+    {
         let mut words = self.words;
-        for i in 0..W {
-            words[i] ^= words[i] & other.words[i];
+        for (i, word) in other.words.iter().enumerate() {
+            words[i] = join(words[i], *word);
         }
         EventSet { words }
     }
@@ -63,8 +65,8 @@ impl<const W: usize> EventSet<W> {
     pub fn intersects(&self, other: &EventSet<W>) -> bool
         ensures { Decides result (Meets self.now other.now) }
     {
-        for i in 0..W {
-            if self.words[i] & other.words[i] != 0 {
+        for (a, b) in self.words.iter().zip(&other.words) {
+            if a & b != 0 {
                 return true;
             }
         }
@@ -76,14 +78,16 @@ impl<const W: usize> EventSet<W> {
         requires { W ≤ 1024 }
         ensures { MatchOption result (Empty self.old × Empty self.new) (Popped self.old self.new) }
     {
-        for i in 0..W {
-            let x = self.words[i];
-            if x != 0 {
-                let t = x.trailing_zeros();
-                self.words[i] = x ^ (1 << t);
-                return Some(64 * i + t as usize);
-            }
-        }
-        None
+        let i = self.first_word()?;
+        let low = self.words[i].trailing_zeros();
+        self.words[i] ^= 1 << low;
+        Some(64 * i + low as usize)
+    }
+
+    /// The first word that has an event.
+    fn first_word(&self) -> Option<usize>
+        ensures { MatchOption result ((i : ℕ) → slice_index self.now.words i ≡ 0) (λ i. (i < W) × (slice_index self.now.words i ≢ 0) × ((k : ℕ) → k < i → slice_index self.now.words k ≡ 0)) }
+    {
+        self.words.iter().position(|word| *word != 0)
     }
 }

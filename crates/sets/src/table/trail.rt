@@ -1,85 +1,84 @@
 //! What a table has, and how it is changed and taken back.
-ghost use Rattle.std.specs.Prelude.{◌≡◌, ℕ, ◌+◌, ◌*◌, ◌<◌, ◌≤◌, Bool, true, false, ◌&&◌, ◌||◌, ◌==◌};
+ghost use Rattle.std.specs.Prelude.{◌≡◌, ℕ, ◌+◌, ◌*◌, ◌<◌, ◌≤◌, Bool, true, false, ◌&&◌, ◌||◌, ◌==◌, length};
 ghost use Rattle.sets.specs.Sets.{has, size};
-ghost use Rattle.sets.specs.Rows.{in_row, undone, widened, RowsKept};
+ghost use Rattle.sets.specs.Rows.{in_row, in_rows, trail_len, undone, widened, RowsKept};
 
-use super::Table;
+use super::{Saved, Table};
 use crate::set::EventSet;
+use arrayvec::ArrayVec;
 
 impl<const N: usize, const W: usize, const T: usize> Table<N, W, T> {
     /// A table of empty rows, with nothing on its trail.
     pub fn new() -> Table<N, W, T>
         requires { (N ≤ 64 * W) × (W ≤ 1024) }
         ensures rows { (x y : ℕ) → in_row result x y ≡ false }
-        ensures len { result.len ≡ 0 }
+        ensures len { trail_len result ≡ 0 }
     {
-        let empty = EventSet::new();
         Table {
-            rows: [empty; N],
-            at: [0; T],
-            old: [empty; T],
-            len: 0,
+            rows: [EventSet::new(); N],
+            trail: ArrayVec::new(),
         }
     }
 
     /// Empties every row and the trail.
     pub fn clear(&mut self)
-        ensures rows { (x y : ℕ) → in_row self.exit.now x y ≡ false }
-        ensures len { self.exit.now.len ≡ 0 }
+        ensures rows { (x y : ℕ) → in_row self.new x y ≡ false }
+        ensures len { trail_len self.new ≡ 0 }
     {
-        let empty = EventSet::new();
-        let rows = [empty; N];
-        self.rows = rows;
-        self.len = 0;
+        self.rows.fill(EventSet::new());
+        self.trail.clear();
     }
 
     /// The row of `x`.
     pub fn row(&self, x: usize) -> EventSet<W>
         requires { x < N }
-        ensures { (y : ℕ) → has result y ≡ in_row self.entry.now x y }
+        ensures { (y : ℕ) → has result y ≡ in_row self.now x y }
     {
         self.rows[x]
+    }
+
+    /// The row of each event.
+    pub fn rows(&self) -> &[EventSet<W>; N]
+        ensures rows { (x y : ℕ) → in_rows result.now x y ≡ in_row self.now x y }
+        ensures each { length result.now ≡ N }
+    {
+        &self.rows
     }
 
     /// Whether `y` is in the row of `x`.
     pub fn contains(&self, x: usize, y: usize) -> bool
         requires { (x < N) × (y < N) }
-        ensures { result ≡ in_row self.entry.now x y }
+        ensures { result ≡ in_row self.now x y }
     {
         self.rows[x].contains(y)
     }
 
     /// How long the trail is: what `undo_to` takes.
     pub fn mark(&self) -> usize
-        ensures { result ≡ self.entry.now.len }
+        ensures { result ≡ trail_len self.now }
     {
-        self.len
+        self.trail.len()
     }
 
     /// Adds more to the row of `x`, which the trail keeps as it was.
     fn put(&mut self, x: usize, more: &EventSet<W>)
-        requires { (x < N) × (self.now.len < T) }
-        ensures len { self.exit.now.len ≡ self.entry.now.len + 1 }
-        ensures rows { (z y : ℕ) → in_row self.exit.now z y ≡ (in_row self.entry.now z y || (z == x && has more.now y)) }
-        ensures back { RowsKept self.entry.now self.exit.now }
+        requires { (x < N) × (trail_len self.old < T) }
+        ensures len { trail_len self.new ≡ trail_len self.old + 1 }
+        ensures rows { (z y : ℕ) → in_row self.new z y ≡ (in_row self.old z y || (z == x && has more.now y)) }
+        ensures back { RowsKept self.old self.new }
     {
         let row = self.rows[x];
-        let mut wide = row;
-        wide.union_with(more);
-        let len = self.len;
-        self.at[len] = x as u16;
-        self.old[len] = row;
-        self.rows[x] = wide;
-        self.len = len + 1;
+        self.rows[x].union_with(more);
+        self.trail.push(Saved { row, of: x as u16 });
     }
 
     /// Adds more to each row that is picked.
     pub fn widen(&mut self, which: &EventSet<W>, more: &EventSet<W>)
         requires inside { (x : ℕ) → has which.now x ≡ true → x < N }
-        requires room { self.now.len + size which.now ≤ T }
-        ensures len { self.exit.now.len ≤ self.entry.now.len + size which.now }
-        ensures rows { in_row self.exit.now ≡ widened (in_row self.entry.now) (has which.now) (has more.now) }
-        ensures back { RowsKept self.entry.now self.exit.now }
+        requires room { trail_len self.old + size which.now ≤ T }
+        ensures len { trail_len self.new ≤ trail_len self.old + size which.now }
+        ensures rows { in_row self.new ≡ widened (in_row self.old) (has which.now) (has more.now) }
+        ensures back { RowsKept self.old self.new }
     {
         let mut rest = *which;
         while let Some(x) = rest.pop() {
@@ -89,17 +88,18 @@ impl<const N: usize, const W: usize, const T: usize> Table<N, W, T> {
 
     /// Takes back what was changed since the trail had this length.
     pub fn undo_to(&mut self, mark: usize)
-        requires { mark ≤ self.now.len }
-        ensures len { self.exit.now.len ≡ mark }
-        ensures rows { in_row self.exit.now ≡ undone self.entry.now mark }
-        ensures back { RowsKept self.exit.now self.entry.now }
+        requires { mark ≤ trail_len self.old }
+        ensures len { trail_len self.new ≡ mark }
+        ensures rows { in_row self.new ≡ undone self.old mark }
+        ensures back { RowsKept self.new self.old }
     {
-        while self.len > mark {
-            let last = self.len - 1;
-            let row = self.old[last];
-            let x = self.at[last] as usize;
-            self.rows[x] = row;
-            self.len = last;
+        // Read from the back and cut once: a `pop` for each row made the search slower.
+        let mut len = self.trail.len();
+        while len > mark {
+            len -= 1;
+            let saved = self.trail[len];
+            self.rows[saved.of as usize] = saved.row;
         }
+        self.trail.truncate(mark);
     }
 }

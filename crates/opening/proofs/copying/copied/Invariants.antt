@@ -1,5 +1,6 @@
-use Rattle.std.proofs.Common.{◌≡◌, length, take}
+use Rattle.std.proofs.Common.{◌≡◌, ◌++◌}
+use Rattle.history.specs.Events.{events_left}
 use Rattle.opening.proofs.copying.copied.Given as goal
 
-abbrev pub invariant-loop-i : goal.invariant-loop-i
-invariant-loop-i g l = (length l.events ≡ 256) × (take l.i l.events ≡ take l.i (g.S.Source.events l.source))
+abbrev pub invariant-loop-e : goal.invariant-loop-e
+invariant-loop-e g l = l.events.items ++ events_left g.S.Source.events l.e-iterator ≡ g.S.Source.events l.source

@@ -1,4 +1,5 @@
-use Rattle.std.proofs.Common.{◌≡◌, ℕ, ◌+◌, ◌*◌, ◌<◌, ◌≤◌, length, get_or}
+use Rattle.std.proofs.Common.{◌≡◌, ℕ, ◌+◌, ◌*◌, ◌<◌, ◌≤◌, length, get_or, drop}
+use Rattle.history.specs.Events.{events_left}
 use Rattle.packed.specs.Bits.{bit_in}
 use Rattle.packed.specs.Layout.{words, size}
 use Rattle.packed.proofs.writing.put_all.Given as goal
@@ -7,5 +8,9 @@ abbrev pub invariant-loop-i : goal.invariant-loop-i
 invariant-loop-i g l =
     let season = g.S.Source.season l.source in
     let es = g.S.Source.events l.source in
-    ((k : ℕ) → k < (l.i + 1) * 25 → bit_in 8 l.bytes k ≡ bit_in 25 (words season es) k)
-    × ((j : ℕ) → size (length es) ≤ j → get_or l.bytes j 0 ≡ get_or l.initial.bytes j 0)
+    record {
+      ahead : drop l.i es ≡ events_left g.S.Source.events l.e-iterator;
+      inside : l.i ≤ length es;
+      bits : (k : ℕ) → k < (l.i + 1) * 25 → bit_in 8 l.bytes k ≡ bit_in 25 (words season es) k;
+      rest : (j : ℕ) → size (length es) ≤ j → get_or l.bytes j 0 ≡ get_or l.initial.bytes j 0;
+    }

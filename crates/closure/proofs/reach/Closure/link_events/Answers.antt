@@ -1,6 +1,8 @@
 use Rattle.std.proofs.Common.{◌≡◌, ℕ, ◌<◌, true, [], sym, ◌∙◌, subst, inl, inr, arith, rules}
 use Rattle.std.proofs.lemmas.Bool.{cases_eq}
 use Rattle.sets.specs.Sets.{has}
+use Rattle.saturation.specs.Recorded.{history_in}
+use Rattle.order.specs.History.{count}
 use Rattle.saturation.specs.Rooting.{leads_in}
 use Rattle.saturation.proofs.Roots.{leads_below}
 use Rattle.closure.specs.Closures.{earlier, HasRow, HasEvents}
@@ -24,7 +26,7 @@ loop-x-preserved g c =
     let r = c.args.case.now in
     let a = c.link_row.ensures in
     let e = c.requires in
-    let lx : c.loop-x.x < c.args.case.now.count = omega arith in (
+    let lx : c.loop-x.x < count (history_in c.args.case.now) = omega arith in (
       raised_then (HasEvents r) c.args.self.now c.loop-x.self c.link_row.new.self c.loop-x.invariant.0
           (raised_kind (HasRow x c.followers.result) (HasEvents r) c.loop-x.self c.link_row.new.self (λ Q all y h. all x y (lx, sym (c.followers.ensures y) ∙ h)) a.raised),
       λ z y l h. elim (cases_eq z x) [

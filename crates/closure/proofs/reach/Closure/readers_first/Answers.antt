@@ -8,7 +8,7 @@ use Rattle.closure.proofs.reach.Closure.readers_first.Goals as goal
 
 pub loop-r-init : goal.loop-r-init
 loop-r-init g c =
-    (raised_same (Closed c.args.facts.now) c.args.self.now, λ x h. sym (c.takers-takers.ensures x) ∙ h, λ q x h k. inl (c.takers-takers.ensures x ∙ k))
+    (raised_same (Closed c.args.facts.now) c.args.self.now, λ x h. sym (c.ties-2.ensures.takers x) ∙ h, λ q x h k. inl (c.ties-2.ensures.takers x ∙ k))
 
 pub lead-requires : goal.lead-requires
 lead-requires g c =
@@ -19,7 +19,7 @@ lead-requires g c =
     let listed : After c.args.facts.now c.loop-r.self c.args.w c.intersection-later.result
     = λ q h.
     let b = and_parts _ _ (sym (c.intersection-later.ensures q) ∙ h) in
-    (sym (c.mates.ensures q) ∙ b.1, c.loop-r.invariant.0.keeps c.args.w q (sym (c.successors.ensures q) ∙ b.0)) in
+    (sym (c.ties.ensures.mates q) ∙ b.1, c.loop-r.invariant.0.keeps c.args.w q (sym (c.successors.ensures q) ∙ b.0)) in
     search rules
 
 pub loop-r-smaller : goal.loop-r-smaller
@@ -45,6 +45,6 @@ pub returns : goal.returns
 returns g c = record {
   raised = c.loop-r.invariant.0;
   rule = λ q x m k h.
-      let l = c.intersection-later.ensures q ∙ and_from _ _ (c.successors.ensures q ∙ h) (c.mates.ensures q ∙ m) in
+      let l = c.intersection-later.ensures q ∙ and_from _ _ (c.successors.ensures q ∙ h) (c.ties.ensures.mates q ∙ m) in
       elim (c.loop-r.invariant.2 q x l k) [ inl o ↦ absurd (true≢false (sym o ∙ c.in_default.ensures.0 x)) | inr o ↦ o ];
 }

@@ -1,32 +1,25 @@
-use Rattle.std.proofs.Common.{◌≡◌, ◌+◌, ◌-◌, take, sym, subst, true≢false, arith}
+use Rattle.std.proofs.Common.{◌≡◌, true, IfNone, sym, subst}
+use Rattle.std.specs.Option.{option_to_list}
+use Rattle.order.specs.History.{count}
 use Rattle.saturation.specs.Recorded.{history_in}
-use Rattle.saturation.specs.Rooting.{PairsUpTo}
 use Rattle.referee.specs.Meaning.{pairs_of}
-use Rattle.referee.proofs.Steps.{lift_turn, fewer_pairs, unjudged_shows_nothing, admits_lift, latest_pair, all_but_latest}
+use Rattle.referee.specs.Nodes.{AtNode}
+use Rattle.referee.specs.Verdicts.{is_serial}
+use Rattle.referee.proofs.Steps.{fewer_pairs}
 use Rattle.referee.proofs.case.Case.lift.Goals as goal
 
 pub invariant_of-self : goal.invariant_of-self
 invariant_of-self c =
     let o = c.args.self.now in
-    let k = o.standing - 1 in
-    let one : k + 1 ≡ o.standing = omega (arith, c.if-self-eq0.false) in record {
-      room = o.room;
-      stands = omega (arith, o.stands);
-      inside = fewer_pairs o.recorded.count k o.stipulations (omega (arith, o.stands, o.room, c.if-self-eq0.false))
-          (subst (λ n. PairsUpTo o.recorded.count (take n o.stipulations)) (sym one) o.inside);
+    let p = c.pop.new.self in
+    let same : p ≡ o.stipulations = subst (λ q. IfNone q (p ≡ o.stipulations)) c.in_err-pair.ensures.ok_part c.pop.ensures.empty in
+    record {
+      inside = fewer_pairs (count (history_in o.recorded)) (pairs_of o) p.items (option_to_list c.pop.result) c.pop.ensures.items o.inside;
       rows = o.rows;
-      shown = ∣ unjudged_shows_nothing (admits_lift o.state c.in_ok-state.state c.in_ok-state.ensures).1 ∣₁;
+      shown = subst (λ z. ∥ (is_serial o.state ≡ true → AtNode (history_in o.recorded) z.items o.node) ∥₁) (sym same) o.shown;
     }
 
-pub returns : goal.returns
-returns c =
+pub invariant_of-self-2-clause-inside : goal.invariant_of-self-2-clause-inside
+invariant_of-self-2-clause-inside c =
     let o = c.args.self.now in
-    let S = o.stipulations in
-    let n = o.standing in
-    let few = o.stands in
-    let room = o.room in
-    record {
-      law = lift_turn (history_in o.recorded) (pairs_of o) _ o.state c.in_ok-state.state _ c.in_ok-state.ensures
-          (latest_pair S n (omega (arith, c.if-self-eq0.false)) (omega arith)) (all_but_latest S n (omega arith));
-      same = λ e. absurd (true≢false (sym e));
-    }
+    fewer_pairs (count (history_in o.recorded)) (pairs_of o) c.pop.new.self.items (option_to_list c.pop.result) c.pop.ensures.items o.inside

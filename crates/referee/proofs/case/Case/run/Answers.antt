@@ -1,11 +1,12 @@
-use Rattle.std.proofs.Common.{get_or, subst, arith}
+use Rattle.std.proofs.Common.{get_or, Some, refl, subst, arith}
 use Rattle.std.proofs.lemmas.List.{get_or_default}
 use Rattle.order.specs.History.{history_of}
-use Rattle.runs.specs.Runs.{opened}
-use Rattle.runs.proofs.Runs.{runs_are_lawful_lem}
+use Rattle.order.specs.Calls.{opened}
+use Rattle.order.proofs.Runs.{runs_are_lawful_lem}
 use Rattle.referee.specs.Meaning.{meaning, TurnOn}
 use Rattle.referee.specs.Preferring.{as_preference}
 use Rattle.referee.specs.Entries.{turn_of, turns_of}
+use Rattle.referee.specs.declared.entry.Entry.{Entry}
 use Rattle.referee.proofs.Making.{partly_none, partly_more, partly_all}
 use Rattle.referee.proofs.case.Case.run.Goals as goal
 
@@ -22,10 +23,14 @@ loop-entry-preserved g c =
     let i = c.loop-entry.entry-index in
     let here = c.loop-entry.entries in
     let e = get_or here i c.entry-item.result in
-    let e' = c.answer.new.entry in
+    let e' : Entry g.row.P.Denot g.row.B.Denot = record { call = e.call; buffer = c.make.new.buffer; answer = Some c.make.result } in
     let so = c.loop-entry.invariant in
-    let t = subst (λ m. TurnOn (turn_of means numbers e e') m (meaning c.answer.new.self)) so.1 c.answer.ensures.law in
-    (t.0, t.2, partly_more means numbers h c.args.entries.now i here so.0 t.0 e e' so.2 (omega (arith, c.loop-entry.auto.entries)) (get_or_default here i c.entry-item.result e (omega (arith, c.loop-entry.auto.entries))) t.1 c.answer.ensures.stays)
+    let t = subst (λ m. TurnOn (turn_of means numbers e e') m (meaning c.make.new.self)) so.1 c.make.ensures.law in (
+      t.0,
+      t.2,
+      partly_more means numbers h c.args.entries.now i here so.0 t.0 e e' so.2 (omega (arith, c.loop-entry.auto.entries))
+          (get_or_default here i c.entry-item.result e (omega (arith, c.loop-entry.auto.entries))) t.1 (record { call = refl; buffer = c.make.ensures.stays }),
+    )
 
 pub returns : goal.returns
 returns g c =

@@ -1,6 +1,6 @@
 use Rattle.std.proofs.Common.{◌≡◌}
 use Rattle.order.specs.History.{history_of}
-use Rattle.runs.specs.Runs.{Held}
+use Rattle.order.specs.Calls.{Held}
 use Rattle.referee.specs.Meaning.{meaning, holds}
 use Rattle.referee.specs.Preferring.{as_preference}
 use Rattle.referee.proofs.Making.{Partly}

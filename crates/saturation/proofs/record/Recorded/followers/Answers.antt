@@ -10,7 +10,7 @@ use Rattle.saturation.specs.Rooting.{leads}
 use Rattle.sets.specs.declared.set.EventSet.{EventSet}
 use Rattle.sets.proofs.Backs.{in_get}
 use Rattle.saturation.proofs.Turns.{one_beside}
-use Rattle.saturation.proofs.Records.{zeros, record_at}
+use Rattle.saturation.proofs.Records.{zeros, event_at_lem}
 use Rattle.saturation.proofs.record.Recorded.followers.Goals as goal
 use Rattle.saturation.proofs.record.Recorded.followers.Goals.{then-comes_first, else-comes_first}
 
@@ -26,9 +26,10 @@ loop-y-preserved g c =
     let A : ℕ → Bool = λ y. in_rows c.args.self.now.kept c.args.x y in
     let K : ℕ → Bool = λ y. leads (at (history_in c.args.self.now) (suc c.args.x)) (at (history_in c.args.self.now) (suc y)) in
     let i : ℕ = c.loop-y.y in
-    let here : K c.loop-y.y ≡ leads (get_or c.args.self.now.events c.args.x zeros) (get_or c.args.self.now.events c.loop-y.y zeros)
-    = ap (λ (e : Event). leads e (at (history_in c.args.self.now) (suc c.loop-y.y))) (record_at c.args.self.now c.args.x c.requires)
-    ∙ ap (λ (e : Event). leads (get_or c.args.self.now.events c.args.x zeros) e) (record_at c.args.self.now c.loop-y.y c.loop-y-test.true) in
+    let second : Event = get_or c.events-second-items.result.now i zeros in
+    let here : K i ≡ leads c.event-first.result second
+    = ap (λ (e : Event). leads e (at (history_in c.args.self.now) (suc i))) (sym c.event-first.ensures)
+    ∙ ap (λ (e : Event). leads c.event-first.result e) (event_at_lem (history_in c.args.self.now).events i ∙ ap (λ l. get_or l i zeros) (sym c.events-second-items.ensures)) in
     one_beside (has c.loop-y.followers) K i A (has c.if-comes_first.followers) c.loop-y.invariant
     (λ y ne. elim c.if-comes_first.branch [
       | then-comes_first w ↦ ap (λ (s : EventSet g.row.W). has s y) w.followers-is ∙ w.insert.ensures y ∙ ap (λ b. b || has c.loop-y.followers y) (ne_eqb y i ne)

@@ -1,7 +1,7 @@
-use Rattle.std.proofs.Common.{◌≡◌, ℕ, suc, ◌&&◌, ltb, length, take}
+use Rattle.std.proofs.Common.{◌≡◌, ℕ, suc, ◌&&◌, ltb, length}
 use Rattle.order.specs.History.{kept_by}
 use Rattle.sets.specs.Rows.{in_rows}
 use Rattle.saturation.proofs.record.Recorded.new.Given as goal
 
 abbrev pub invariant-loop-x : goal.invariant-loop-x
-invariant-loop-x g l = (length l.rows ≡ g.row.N) × ((x y : ℕ) → in_rows l.rows x y ≡ (ltb x l.x && kept_by (g.R.Rule.keeps l.rule) (take l.count l.events) (suc x) (suc y)))
+invariant-loop-x g l = (length l.row-items ≡ g.row.N) × ((x y : ℕ) → in_rows l.row-items x y ≡ (ltb x l.x && kept_by (g.R.Rule.keeps l.rule) l.listed (suc x) (suc y)))

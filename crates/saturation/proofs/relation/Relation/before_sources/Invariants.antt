@@ -1,6 +1,7 @@
 use Rattle.std.proofs.Common.{◌≡◌, ℕ, true, ◌⊎◌, get_or}
 use Rattle.sets.specs.Sets.{has, size}
 use Rattle.sets.specs.Rows.{in_rows}
+use Rattle.saturation.specs.Ties.{from_of, others_of}
 use Rattle.saturation.specs.Relations.{earlier, Kept}
 use Rattle.saturation.specs.Laws.{Forced}
 use Rattle.saturation.proofs.relation.Relation.before_sources.Given as goal
@@ -9,8 +10,8 @@ abbrev pub invariant-loop-r : goal.invariant-loop-r
 invariant-loop-r g l =
     Kept l.initial.self l.self
     × Forced l.facts l.initial.self l.self
-    × ((x : ℕ) → has l.reads x ≡ true → (in_rows l.facts.others l.w x ≡ true) × (earlier l.initial.self l.w x ≡ true))
-    × ((x : ℕ) → in_rows l.facts.others l.w x ≡ true → earlier l.initial.self l.w x ≡ true → (has l.reads x ≡ true) ⊎ (earlier l.self l.w (get_or l.facts.from x 0) ≡ true))
+    × ((x : ℕ) → has l.reads x ≡ true → (in_rows (others_of l.facts.ties) l.w x ≡ true) × (earlier l.initial.self l.w x ≡ true))
+    × ((x : ℕ) → in_rows (others_of l.facts.ties) l.w x ≡ true → earlier l.initial.self l.w x ≡ true → (has l.reads x ≡ true) ⊎ (earlier l.self l.w (get_or (from_of l.facts.ties) x 0) ≡ true))
 
 abbrev pub decreases-loop-r : goal.decreases-loop-r
 decreases-loop-r g l = size l.reads

@@ -1,21 +1,22 @@
 use Rattle.std.proofs.Common.{◌≡◌, ◌<◌, true, length, sym, ◌∙◌, subst, inl, inr, arith, rules}
 use Rattle.std.proofs.lemmas.Bool.{true≢false, and_parts, and_from, cases_lt, ne_eqb, not-true, not_from_false}
 use Rattle.sets.specs.Rows.{in_rows}
+use Rattle.saturation.specs.Ties.{mates_of}
 use Rattle.saturation.specs.Orders.{free}
 use Rattle.saturation.specs.Relations.{earlier}
 use Rattle.sets.proofs.Counts.{pop_falls}
-use Rattle.sets.proofs.Backs.{in_get}
+use Rattle.saturation.proofs.Parts.{in_part}
 use Rattle.saturation.proofs.Slacks.{free_parts, free_from}
 use Rattle.saturation.proofs.Opens.{first_open, none_open}
 use Rattle.saturation.proofs.relation.Relation.first_unordered.Goals as goal
 
 pub loop-b-init : goal.loop-b-init
 loop-b-init g c =
-    let la : c.loop-a.a < length c.args.facts.now.mates = search rules in (
+    let la : c.loop-a.a < length c.args.facts.now.ties = search rules in (
       λ y h.
           let p = and_parts _ _ (sym (c.difference-open.ensures y) ∙ h) in
           let q = and_parts _ _ (sym (c.difference.ensures y) ∙ p.0) in (
-            in_get c.args.facts.now.mates c.loop-a.a _ la y ∙ q.0,
+            in_part (λ t. t.mates) c.args.facts.now.ties c.loop-a.a _ la y ∙ q.0,
             sym (c.successors.ensures y) ∙ not-true _ q.1,
             sym (c.predecessors.ensures y) ∙ not-true _ p.1,
           ),
@@ -23,7 +24,7 @@ loop-b-init g c =
           let p = free_parts (earlier c.args.self.now) c.loop-a.a y z in
           c.difference-open.ensures y
           ∙ and_from _ _
-          (c.difference.ensures y ∙ and_from _ _ (sym (in_get c.args.facts.now.mates c.loop-a.a _ la y) ∙ m) (not_from_false _ (c.successors.ensures y ∙ p.1)))
+          (c.difference.ensures y ∙ and_from _ _ (sym (in_part (λ t. t.mates) c.args.facts.now.ties c.loop-a.a _ la y) ∙ m) (not_from_false _ (c.successors.ensures y ∙ p.1)))
           (not_from_false _ (c.predecessors.ensures y ∙ p.2)),
     )
 
@@ -46,7 +47,7 @@ loop-a-preserved g c x y l k s m z =
       | inl b ↦ c.loop-a.invariant x y l b s m z
       | inr b ↦
           let e : x ≡ c.loop-a.a = omega arith in
-          let t = c.loop-b.invariant.1 y (omega arith) (subst (λ w. in_rows c.args.facts.now.mates w y ≡ true) e m) (subst (λ w. free (earlier c.args.self.now) w y ≡ true) e z) in
+          let t = c.loop-b.invariant.1 y (omega arith) (subst (λ w. in_rows (mates_of c.args.facts.now.ties) w y ≡ true) e m) (subst (λ w. free (earlier c.args.self.now) w y ≡ true) e z) in
           true≢false (sym t ∙ c.in_default.ensures.0 y)
     ]
 
@@ -65,7 +66,7 @@ returns-then-a-b g c =
           (λ y l m w. elim (cases_lt y c.in-Some.b) [ inl k ↦ absurd (true≢false (sym (c.loop-b.invariant.1 y l m w) ∙ p.lowest y k)) | inr k ↦ k ]);
     }
 
-pub returns-after-loop-a : goal.returns-after-loop-a
-returns-after-loop-a g c h S facts exact =
+pub returns : goal.returns
+returns g c h S facts exact =
     none_open h S facts c.args.self.now exact c.args.from
     (λ x y l k. c.loop-a.invariant x y l (let e = c.count-a-end.ensures in omega arith))

@@ -1,6 +1,6 @@
 use Rattle.std.proofs.Common.{ℕ, sym, ap, ◌∙◌, inl, inr, rules}
 use Rattle.std.proofs.lemmas.Bool.{true≢false, and_parts, and_from, cases_eq, cases_Bool, ne_eqb, not_from_false}
-use Rattle.std.proofs.lemmas.Bool.Decides.{when_true, when_false}
+use Rattle.std.proofs.lemmas.Result.{MatchResult-from_err}
 use Rattle.sets.specs.Sets.{has}
 use Rattle.saturation.specs.Relations.{earlier}
 use Rattle.sets.proofs.Counts.{pop_falls}
@@ -45,7 +45,7 @@ loop-q-preserved g c =
     let q : ℕ = c.in-Some.q in
     let p = c.in-Some.ensures in
     let m = c.requires.listed c.in-Some.q (c.loop-q.invariant.2 c.in-Some.q p.was) in
-    let l = when_true _ _ c.if-not-link.false c.link.ensures in
+    let l = c.in_ok-link.ensures in
     let a = c.loop-q.invariant.1 in
     let step = forced_link f c.loop-q.self c.link.new.self r q (λ Q within met. (met w).1 q r m.0 c.requires.inside.1 (within w q (a.grown.keeps w q m.1))) l in (
       kept_then c.args.self.now c.loop-q.self c.link.new.self c.loop-q.invariant.0 l.kept,
@@ -60,8 +60,8 @@ loop-q-preserved g c =
       ],
     )
 
-pub returns-then-not-link : goal.returns-then-not-link
-returns-then-not-link g c =
+pub returns-in_err-link : goal.returns-in_err-link
+returns-in_err-link g c =
     let f = c.args.facts.now in
     let w : ℕ = c.args.w in
     let r : ℕ = c.args.r in
@@ -69,11 +69,12 @@ returns-then-not-link g c =
     let p = c.in-Some.ensures in
     let m = c.requires.listed c.in-Some.q (c.loop-q.invariant.2 c.in-Some.q p.was) in
     let a = c.loop-q.invariant.1 in
-    let l = when_false _ _ c.if-not-link.true c.link.ensures in
+    let l = c.in_err-link.ensures in
     record {
       kept = kept_then c.args.self.now c.loop-q.self c.link.new.self c.loop-q.invariant.0 (kept_link c.loop-q.self c.link.new.self l.1);
-      rule = doomed_then f (earlier c.args.self.now) (earlier c.loop-q.self) a.grown
-          (doomed_link f c.loop-q.self r q (λ Q within met. (met w).1 q r m.0 c.requires.inside.1 (within w q (a.grown.keeps w q m.1))) l.0);
+      rule = MatchResult-from_err _ _ _ c.from_residual.ensures.0
+          (λ _. doomed_then f (earlier c.args.self.now) (earlier c.loop-q.self) a.grown
+          (doomed_link f c.loop-q.self r q (λ Q within met. (met w).1 q r m.0 c.requires.inside.1 (within w q (a.grown.keeps w q m.1))) l.0));
     }
 
 pub returns : goal.returns

@@ -1,6 +1,6 @@
 use Rattle.std.proofs.Common.{◌≡◌, true, false, not, ◌&&◌, sym, ap, ◌∙◌, inl, inr}
 use Rattle.std.proofs.lemmas.Bool.{cases_eq, eq-eqb, ne_eqb, and_right, and_left, and_parts, not_from_true}
-use Rattle.std.proofs.lemmas.Bool.Decides.{when_true, when_false}
+use Rattle.std.proofs.lemmas.Result.{MatchResult-from_err}
 use Rattle.sets.specs.Sets.{has}
 use Rattle.saturation.specs.Rooting.{RowOf}
 use Rattle.sets.proofs.Counts.{pop_falls}
@@ -14,7 +14,7 @@ loop-y-smaller g c = pop_falls c.loop-y.rest c.pop.new.self c.in-Some.y c.in-Som
 pub loop-y-preserved : goal.loop-y-preserved
 loop-y-preserved g c =
     let p = c.in-Some.ensures in
-    let l = when_true _ _ c.if-not-link.false c.link.ensures in (
+    let l = c.in_ok-link.ensures in (
       kept_then c.args.self.now c.loop-y.self c.link.new.self c.loop-y.invariant.0 l.kept,
       gained_then (λ u v. (u ≡ c.args.x) × (has c.args.listed.now v ≡ true) × (has c.loop-y.rest v ≡ false)) (Only c.args.x c.in-Some.y)
           (λ u v. (u ≡ c.args.x) × (has c.args.listed.now v ≡ true) × (has c.pop.new.self v ≡ false))
@@ -33,17 +33,18 @@ loop-y-preserved g c =
       λ y h. c.loop-y.invariant.2 y (and_parts _ _ (sym (p.rest y) ∙ h)).1,
     )
 
-pub returns-then-not-link : goal.returns-then-not-link
-returns-then-not-link g c =
+pub returns-in_err-link : goal.returns-in_err-link
+returns-in_err-link g c =
     let p = c.in-Some.ensures in
-    let l = when_false _ _ c.if-not-link.true c.link.ensures in
+    let l = c.in_err-link.ensures in
     record {
       kept = kept_then c.args.self.now c.loop-y.self c.link.new.self c.loop-y.invariant.0 (kept_link c.loop-y.self c.link.new.self l.1);
-      pairs = blocked_then (λ u v. (u ≡ c.args.x) × (has c.args.listed.now v ≡ true) × (has c.loop-y.rest v ≡ false)) (Only c.args.x c.in-Some.y) (RowOf c.args.x c.args.listed.now)
+      pairs = MatchResult-from_err _ _ _ c.from_residual.ensures.0
+          (λ _. blocked_then (λ u v. (u ≡ c.args.x) × (has c.args.listed.now v ≡ true) × (has c.loop-y.rest v ≡ false)) (Only c.args.x c.in-Some.y) (RowOf c.args.x c.args.listed.now)
           c.args.self.now c.loop-y.self c.loop-y.invariant.1
           (λ u v k. (k.0, k.1))
           (λ u v k. (k.0, ap (λ z. has c.args.listed.now z) k.1 ∙ c.loop-y.invariant.2 c.in-Some.y p.was))
-          (blocked_link c.loop-y.self c.args.x c.in-Some.y l.0);
+          (blocked_link c.loop-y.self c.args.x c.in-Some.y l.0));
     }
 
 pub returns : goal.returns

@@ -1,7 +1,9 @@
 use Rattle.std.proofs.Common.{◌≡◌, ℕ, ◌+◌, ◌<◌, true, [], sym, ap, ◌∙◌, inl, inr, arith, rules}
 use Rattle.std.proofs.lemmas.Bool.{cases_eq}
-use Rattle.std.proofs.lemmas.Bool.Decides.{when_true, when_false}
+use Rattle.std.proofs.lemmas.Result.{MatchResult-from_err}
 use Rattle.sets.specs.Sets.{has}
+use Rattle.order.specs.History.{count}
+use Rattle.saturation.specs.Recorded.{history_in}
 use Rattle.saturation.specs.Rooting.{leads_in, Outright, RowOf}
 use Rattle.saturation.proofs.Trails.{kept_same, kept_then}
 use Rattle.saturation.proofs.Roots.{leads_below, gained_same, gained_then, gained_as, blocked_then}
@@ -22,7 +24,7 @@ pub loop-x-preserved : goal.loop-x-preserved
 loop-x-preserved g c =
     let r = c.args.case.now in
     let i : ℕ = c.loop-x.x in
-    let y = when_true _ _ c.if-not-link_all.false c.link_all.ensures.pairs in (
+    let y = c.in_ok-link_all.ensures.pairs in (
       kept_then c.args.self.now c.loop-x.self c.link_all.new.self c.loop-x.invariant.0 c.link_all.ensures.kept,
       gained_then (Outright r i) (RowOf i c.followers.result) (Outright r (i + 1)) c.args.self.now c.loop-x.self c.loop-x.invariant.1
           (λ u v k. (let l = k.0 in omega arith, k.1))
@@ -34,22 +36,23 @@ loop-x-preserved g c =
           ]),
     )
 
-pub returns-then-not-link_all : goal.returns-then-not-link_all
-returns-then-not-link_all g c =
+pub returns-in_err-link_all : goal.returns-in_err-link_all
+returns-in_err-link_all g c =
     let r = c.args.case.now in
     let i : ℕ = c.loop-x.x in
     let t = c.loop-x-test.true in
     record {
       kept = kept_then c.args.self.now c.loop-x.self c.link_all.new.self c.loop-x.invariant.0 c.link_all.ensures.kept;
-      pairs = blocked_then (Outright r i) (RowOf i c.followers.result) (Outright r c.args.case.now.count) c.args.self.now c.loop-x.self c.loop-x.invariant.1
+      pairs = MatchResult-from_err _ _ _ c.from_residual.ensures.0
+          (λ _. blocked_then (Outright r i) (RowOf i c.followers.result) (Outright r (count (history_in r))) c.args.self.now c.loop-x.self c.loop-x.invariant.1
           (λ u v k. (let l = k.0 in omega arith, k.1))
           (λ u v k. (let e = k.0 in omega arith, ap (λ z. leads_in r z v) k.0 ∙ sym (c.followers.ensures v) ∙ k.1))
-          (when_false _ _ c.if-not-link_all.true c.link_all.ensures.pairs);
+          c.in_err-link_all.ensures.pairs);
     }
 
 pub returns : goal.returns
 returns g c = record {
   kept = c.loop-x.invariant.0;
-  pairs = gained_as (Outright c.args.case.now c.loop-x.x) (Outright c.args.case.now c.args.case.now.count) c.args.self.now c.loop-x.self
+  pairs = gained_as (Outright c.args.case.now c.loop-x.x) (Outright c.args.case.now (count (history_in c.args.case.now))) c.args.self.now c.loop-x.self
       (λ u v k. (let l = k.0 in omega arith, k.1)) (λ u v k. (let l = k.0 in omega arith, k.1)) c.loop-x.invariant.1;
 }

@@ -1,5 +1,5 @@
 use Rattle.std.proofs.Common.{ℕ, ◌+◌, ◌-◌, ◌<◌, ◌≤◌, List, length, get_or, arith, rules}
-use Rattle.std.proofs.lemmas.Bool.Decides.{when_true, when_false}
+use Rattle.std.proofs.lemmas.Result.{MatchResult-from_err}
 use Rattle.saturation.specs.Rooting.{Standing, PairsUpTo}
 use Rattle.saturation.proofs.Trails.{kept_same, kept_then, kept_link}
 use Rattle.saturation.proofs.Roots.{Only, StandingUpTo, member_at, up_left, up_right, up_split, up_stands, stands_up, gained_same, gained_link, gained_then, gained_as, blocked_link, blocked_then}
@@ -32,25 +32,26 @@ loop-a-preserved g c =
     let S = c.args.pairs.now in
     let i : ℕ = c.loop-a.a-index in
     let b = at_place c.args.self.now.count c.args.pairs.now c.requires c.loop-a.a-index c.loop-a-test.true in
-    let l = when_true _ _ c.if-not-link.false c.link.ensures in (
+    let l = c.in_ok-link.ensures in (
       kept_then c.args.self.now c.loop-a.self c.link.new.self c.loop-a.invariant.0 l.kept,
       gained_then (StandingUpTo S i) (Only ((get_or S i (0, 0)).0 - 1) ((get_or S i (0, 0)).1 - 1)) _ c.args.self.now c.loop-a.self c.loop-a.invariant.1 (up_left S i) (up_right S i b.0 b.2)
           c.link.new.self (gained_link c.loop-a.self c.link.new.self ((get_or S i (0, 0)).0 - 1) ((get_or S i (0, 0)).1 - 1) l) (up_split S i),
     )
 
-pub returns-then-not-link : goal.returns-then-not-link
-returns-then-not-link g c =
+pub returns-in_err-link : goal.returns-in_err-link
+returns-in_err-link g c =
     let S = c.args.pairs.now in
     let i : ℕ = c.loop-a.a-index in
     let b = at_place c.args.self.now.count c.args.pairs.now c.requires c.loop-a.a-index c.loop-a-test.true in
-    let l = when_false _ _ c.if-not-link.true c.link.ensures in
+    let l = c.in_err-link.ensures in
     let t = c.loop-a-test.true in
     record {
       kept = kept_then c.args.self.now c.loop-a.self c.link.new.self c.loop-a.invariant.0 (kept_link c.loop-a.self c.link.new.self l.1);
-      pairs = blocked_then (StandingUpTo S i) (Only ((get_or S i (0, 0)).0 - 1) ((get_or S i (0, 0)).1 - 1)) (Standing S) c.args.self.now c.loop-a.self c.loop-a.invariant.1
+      pairs = MatchResult-from_err _ _ _ c.from_residual.ensures.0
+          (λ _. blocked_then (StandingUpTo S i) (Only ((get_or S i (0, 0)).0 - 1) ((get_or S i (0, 0)).1 - 1)) (Standing S) c.args.self.now c.loop-a.self c.loop-a.invariant.1
           (up_stands S i (omega arith))
           (λ x y e. up_stands S (i + 1) (omega arith) x y (up_right S i b.0 b.2 x y e))
-          (blocked_link c.loop-a.self ((get_or S i (0, 0)).0 - 1) ((get_or S i (0, 0)).1 - 1) l.0);
+          (blocked_link c.loop-a.self ((get_or S i (0, 0)).0 - 1) ((get_or S i (0, 0)).1 - 1) l.0));
     }
 
 pub returns : goal.returns

@@ -1,5 +1,5 @@
 use Rattle.std.proofs.Common.{ℕ, Bool, sym, ◌∙◌, subst, arith, rules}
-use Rattle.std.proofs.lemmas.Bool.Decides.{when_true, when_false}
+use Rattle.std.proofs.lemmas.Result.{MatchResult-from_err}
 use Rattle.saturation.specs.Relations.{earlier}
 use Rattle.saturation.specs.Laws.{Fitting, Grown, Closed}
 use Rattle.saturation.proofs.Trails.{kept_same, kept_then, unmoved_kept, unmoved_earlier}
@@ -25,7 +25,7 @@ loop-w-preserved g c =
     let p = c.next_waiting.new.self in
     let q = c.settle.new.self in
     let u = c.next_waiting.ensures.unmoved in
-    let y = when_true _ _ c.if-not-settle.false c.settle.ensures.rule in (
+    let y = c.in_ok-settle.ensures.rule in (
       kept_then c.args.self.now p q (kept_then c.args.self.now o p c.loop-w.invariant.0 (unmoved_kept o p u)) c.settle.ensures.kept,
       ready_step f o p q c.in-Some.w c.loop-w.invariant.1 u c.in-Some.ensures.next y.0 y.1,
       grown_then f (earlier c.args.self.now) (earlier p) (earlier q)
@@ -34,20 +34,21 @@ loop-w-preserved g c =
 
 pub loop-w-smaller : goal.loop-w-smaller
 loop-w-smaller g c =
-    let y = when_true _ _ c.if-not-settle.false c.settle.ensures.rule in
+    let y = c.in_ok-settle.ensures.rule in
     less_left c.args.facts.now c.loop-w.self c.next_waiting.new.self c.settle.new.self c.in-Some.w c.next_waiting.ensures.unmoved c.in-Some.ensures.next y.0 c.settle.ensures.kept.events
 
-pub returns-then-not-settle : goal.returns-then-not-settle
-returns-then-not-settle g c =
+pub returns-in_err-settle : goal.returns-in_err-settle
+returns-in_err-settle g c =
     let f = c.args.facts.now in
     let o = c.loop-w.self in
     let p = c.next_waiting.new.self in
     let u = c.next_waiting.ensures.unmoved in
     record {
       kept = kept_then c.args.self.now p c.settle.new.self (kept_then c.args.self.now o p c.loop-w.invariant.0 (unmoved_kept o p u)) c.settle.ensures.kept;
-      closed = doomed_then f (earlier c.args.self.now) (earlier p)
+      closed = MatchResult-from_err _ _ _ c.from_residual.ensures.0
+          (λ _. doomed_then f (earlier c.args.self.now) (earlier p)
           (subst (λ (R : ℕ → ℕ → Bool). Grown f (earlier c.args.self.now) R) (sym (unmoved_earlier o p u)) c.loop-w.invariant.2)
-          (when_false _ _ c.if-not-settle.true c.settle.ensures.rule);
+          c.in_err-settle.ensures.rule);
     }
 
 pub returns : goal.returns

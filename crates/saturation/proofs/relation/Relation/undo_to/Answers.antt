@@ -3,6 +3,7 @@ use mathlib.Core.Logic.{∥∥₁_map, ∥∥₁_elim}
 use denote.Struct.Props.{props}
 use Rattle.std.proofs.lemmas.Bool.{true≢false}
 use Rattle.saturation.specs.declared.relation.Mark.{Mark}
+use Rattle.sets.specs.Rows.{trail_len}
 use Rattle.sets.proofs.Backs.{rows_again}
 use Rattle.saturation.proofs.Joins.{sound}
 use Rattle.saturation.proofs.Trails.{sound_at}
@@ -17,8 +18,8 @@ invariant_of-self g c =
       sound = ∥∥₁_map c.requires (λ m.
           let q = m.0 in
           let k = m.1.0 in
-          let ea : c.undo_to.new.self.len ≡ q.after.len = c.undo_to.ensures.len ∙ ap (λ (m : Mark). m.after) (sym m.1.1) in
-          let eb : c.undo_to-2.new.self.len ≡ q.before.len = c.undo_to-2.ensures.len ∙ ap (λ (m : Mark). m.before) (sym m.1.1) in
+          let ea : trail_len c.undo_to.new.self ≡ trail_len q.after = c.undo_to.ensures.len ∙ ap (λ (m : Mark). m.after) (sym m.1.1) in
+          let eb : trail_len c.undo_to-2.new.self ≡ trail_len q.before = c.undo_to-2.ensures.len ∙ ap (λ (m : Mark). m.before) (sym m.1.1) in
           sound_at k.events
           (rows_again q.after c.undo_to.new.self o.after k.afters c.undo_to.ensures.back ea)
           (rows_again q.before c.undo_to-2.new.self o.before k.befores c.undo_to-2.ensures.back eb)
@@ -37,10 +38,10 @@ returns g c =
 
 pub undo_to-requires : goal.undo_to-requires
 undo_to-requires g c =
-    let low : c.args.mark.after ≤ c.args.self.now.after.len = ∥∥₁_elim c.requires (hlevel props) (λ m. omega (arith, m.1.0.afters.longer, ap (λ (k : Mark). k.after) m.1.1)) in
+    let low : c.args.mark.after ≤ trail_len c.args.self.now.after = ∥∥₁_elim c.requires (hlevel props) (λ m. omega (arith, m.1.0.afters.longer, ap (λ (k : Mark). k.after) m.1.1)) in
     search rules
 
 pub undo_to-requires-2 : goal.undo_to-requires-2
 undo_to-requires-2 g c =
-    let low : c.args.mark.before ≤ c.args.self.now.before.len = ∥∥₁_elim c.requires (hlevel props) (λ m. omega (arith, m.1.0.befores.longer, ap (λ (k : Mark). k.before) m.1.1)) in
+    let low : c.args.mark.before ≤ trail_len c.args.self.now.before = ∥∥₁_elim c.requires (hlevel props) (λ m. omega (arith, m.1.0.befores.longer, ap (λ (k : Mark). k.before) m.1.1)) in
     search rules

@@ -1,4 +1,5 @@
 use Rattle.std.proofs.Common.{◌≡◌, ltb, refl, ◌∙◌, subst, arith}
+use Rattle.order.specs.History.{count}
 use Rattle.saturation.specs.Noting.{Noted, with_row}
 use Rattle.saturation.specs.Recorded.{history_in}
 use Rattle.saturation.proofs.Notes.{noted_same, row_none, row_more}
@@ -17,7 +18,7 @@ loop-y-preserved g c = (
 
 pub returns : goal.returns
 returns g c =
-    let e : c.loop-y.y ≡ c.args.case.now.count = omega arith in
+    let e : c.loop-y.y ≡ count (history_in c.args.case.now) = omega arith in
     record {
       same = c.loop-y.invariant.0;
       noted = λ D n. subst (λ k. Noted (history_in c.args.case.now) (with_row D c.args.x (λ q. ltb q k)) c.loop-y.self) e (c.loop-y.invariant.1 D n);

@@ -1,7 +1,7 @@
 use Rattle.std.proofs.Common.{◌<◌, ◌&&◌, ◌||◌, eqb, sym, ap, ◌∙◌, arith, rules}
 use Rattle.std.proofs.lemmas.Bool.{and_parts, eqb-true}
 use Rattle.sets.specs.Sets.{has}
-use Rattle.sets.specs.Rows.{in_row}
+use Rattle.sets.specs.Rows.{in_row, trail_len}
 use Rattle.sets.proofs.Counts.{pop_falls}
 use Rattle.sets.proofs.Backs.{row_by, row_none, row_all, rows_same, rows_then}
 use Rattle.sets.proofs.table.Table.widen.Goals as goal
@@ -15,7 +15,7 @@ put-requires g c =
     let p = c.in-Some.ensures in
     let f = pop_falls c.loop-x.rest c.pop.new.self c.in-Some.x p in
     let lx : c.in-Some.x < g.row.N = c.requires.inside c.in-Some.x (c.loop-x.invariant.0 c.in-Some.x p.was) in
-    let ll : c.loop-x.self.len < g.row.T = omega (arith, f, c.loop-x.invariant.1, c.requires.room) in
+    let ll : trail_len c.loop-x.self < g.row.T = omega (arith, f, c.loop-x.invariant.1, c.requires.room) in
     search rules
 
 pub loop-x-smaller : goal.loop-x-smaller

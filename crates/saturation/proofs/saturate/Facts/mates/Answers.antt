@@ -1,6 +1,0 @@
-use Rattle.std.proofs.Common.{sym, rules}
-use Rattle.sets.proofs.Backs.{in_get}
-use Rattle.saturation.proofs.saturate.Facts.mates.Goals as goal
-
-pub returns : goal.returns
-returns g c y = sym (in_get c.args.self.now.mates c.args.w _ (search rules) y)

@@ -1,6 +1,0 @@
-use Rattle.std.proofs.Common.{sym, ◌∙◌}
-use Rattle.search.proofs.Raises.{joined_already}
-use Rattle.search.proofs.closure.Closure.link.Goals as goal
-
-pub returns-else-not-precedes : goal.returns-else-not-precedes
-returns-else-not-precedes g c = joined_already c.args.self.now c.args.u c.args.v (sym c.precedes.ensures ∙ c.if-not-precedes.false)

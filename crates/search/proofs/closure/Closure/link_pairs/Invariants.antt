@@ -1,8 +1,0 @@
-use Rattle.std.proofs.Common.{◌≡◌, ℕ, ◌-◌, ◌<◌, true, get_or}
-use Rattle.search.specs.Closures.{earlier, Raised, HasPairs}
-use Rattle.search.proofs.closure.Closure.link_pairs.Given as goal
-
-abbrev pub invariant-loop-pair : goal.invariant-loop-pair
-invariant-loop-pair g l =
-    Raised (HasPairs l.pairs) l.initial.self l.self
-    × ((k : ℕ) → k < l.pair-index → earlier l.self ((get_or l.pairs k (0, 0)).0 - 1) ((get_or l.pairs k (0, 0)).1 - 1) ≡ true)

@@ -1,7 +1,0 @@
-use Rattle.std.proofs.Common.{sym, ◌∙◌}
-use Rattle.search.proofs.closure.answers.forced.Goals as goal
-
-pub returns : goal.returns
-returns g c h is =
-    let e = (c.of.ensures h is).same c.args.a c.args.b in
-    (λ t. e.0 (sym c.precedes.ensures ∙ t), λ b. c.precedes.ensures ∙ e.1 b)

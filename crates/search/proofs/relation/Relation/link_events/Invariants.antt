@@ -1,6 +1,0 @@
-use Rattle.search.specs.Relations.{Kept}
-use Rattle.search.specs.Rooting.{Gained, Outright}
-use Rattle.search.proofs.relation.Relation.link_events.Given as goal
-
-abbrev pub invariant-loop-x : goal.invariant-loop-x
-invariant-loop-x g l = Kept l.initial.self l.self × Gained (Outright l.case l.x) l.initial.self l.self

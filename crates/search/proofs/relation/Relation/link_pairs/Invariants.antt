@@ -1,7 +1,0 @@
-use Rattle.search.specs.Relations.{Kept}
-use Rattle.search.specs.Rooting.{Gained}
-use Rattle.search.proofs.Roots.{StandingUpTo}
-use Rattle.search.proofs.relation.Relation.link_pairs.Given as goal
-
-abbrev pub invariant-loop-a : goal.invariant-loop-a
-invariant-loop-a g l = Kept l.initial.self l.self × Gained (StandingUpTo l.pairs l.a-index) l.initial.self l.self

@@ -1,9 +1,0 @@
-use Rattle.std.proofs.Common.{◌≡◌, ℕ, Bool, ltb}
-use Rattle.search.specs.Noting.{Noted, with_row}
-use Rattle.search.specs.Recorded.{history_in}
-use Rattle.search.proofs.saturate.Facts.note_all.Given as goal
-
-abbrev pub invariant-loop-y : goal.invariant-loop-y
-invariant-loop-y g l =
-    (l.self.count ≡ l.initial.self.count)
-    × ((D : ℕ → ℕ → Bool) → Noted (history_in l.case) D l.initial.self → Noted (history_in l.case) (with_row D l.x (λ q. ltb q l.y)) l.self)

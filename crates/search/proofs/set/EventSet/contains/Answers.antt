@@ -1,8 +1,0 @@
-use Rattle.std.proofs.Common.{◌/◌, ◌%◌, get_or}
-use Rattle.search.specs.Bits.{bit_of}
-use Rattle.search.proofs.Words.{bit_test}
-use Rattle.search.proofs.set.EventSet.contains.Goals as goal
-
-pub returns : goal.returns
-unfolding bit_of
-returns g c = bit_test (get_or c.args.self.now.words (c.args.k / 64) 0) (c.args.k % 64)

@@ -1,9 +1,0 @@
-use lib.ListN.{length-replicate}
-use Rattle.search.proofs.Words.{none_bit}
-use Rattle.search.proofs.set.EventSet.new.Goals as goal
-
-pub invariant_of-result : goal.invariant_of-result
-invariant_of-result g c = record { sized = length-replicate g.row.W 0 }
-
-pub returns : goal.returns
-returns g c j = none_bit g.row.W j

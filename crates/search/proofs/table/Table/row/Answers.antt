@@ -1,6 +1,0 @@
-use Rattle.std.proofs.Common.{sym, rules}
-use Rattle.search.proofs.Backs.{in_get}
-use Rattle.search.proofs.table.Table.row.Goals as goal
-
-pub returns : goal.returns
-returns g c y = sym (in_get c.args.self.now.rows c.args.x _ (search rules) y)

@@ -1,6 +1,0 @@
-use Rattle.std.proofs.Common.{arith}
-use lib.ListN.{length-replicate}
-use Rattle.search.proofs.walk.Walk.new.Goals as goal
-
-pub invariant_of-result : goal.invariant_of-result
-invariant_of-result g c = record { sized = length-replicate g.row.T _; deep = omega arith }

@@ -1,8 +1,0 @@
--- The history that a record means.
-use Rattle.std.specs.Prelude.{ℕ}
-use Rattle.order.specs.History.{History}
-use Rattle.search.specs.Histories.{history_from}
-use Rattle.search.specs.declared.record.Recorded.{Recorded}
-
-abbrev pub history_in : {N W : ℕ} → Recorded N W → History
-history_in r = history_from r.events r.count r.kept

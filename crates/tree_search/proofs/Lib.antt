@@ -1,3 +1,0 @@
-pub mod Trees
-pub mod Ways
-pub mod Memory
