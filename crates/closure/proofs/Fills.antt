@@ -1,22 +1,22 @@
 -- A closure that is filled with all that a record and the pairs that stand give outright, and what it says of the history.
-use Rattle.std.proofs.Common.{◌≡◌, ℕ, zero, suc, ◌-◌, ◌<◌, ◌≤◌, Bool, true, false, List, length, get_or, Some, None, Option, sym, ap, ◌∙◌, subst, inl, inr, arith, MatchOption}
+use Rattle.std.proofs.Common.{◌≡◌, ℕ, suc, ◌-◌, ◌<◌, ◌≤◌, Bool, true, false, List, length, get_or, sym, ap, ◌∙◌, subst, arith}
 use mathlib.Core.List.Memᴰ
-use Rattle.std.proofs.lemmas.Bool.{true≢false, cases_lt}
+use Rattle.std.proofs.lemmas.Bool.{true≢false}
 use Rattle.order.specs.History.{PairsOfEvents, count}
-use Rattle.order.specs.Before.{Before, Clash}
-use Rattle.order.proofs.Saturated.{before_numbers}
+use Rattle.order.specs.Before.{Before}
 use Rattle.saturation.specs.Orders.{Transitive, Within}
 use Rattle.saturation.specs.Nodes.{FactsOf}
 use Rattle.saturation.specs.Recorded.{history_in}
 use Rattle.saturation.specs.Rooting.{PairsUpTo}
 use Rattle.saturation.specs.declared.record.Recorded.{Recorded}
 use Rattle.saturation.specs.declared.saturate.Facts.{Facts}
-use Rattle.saturation.proofs.Records.{record_count, record_well}
-use Rattle.saturation.proofs.Bridges.{past, past_e, past_i, past_far, past_ruled, ruled_closed, closed_ruled, has_before}
+use Rattle.saturation.proofs.Records.{record_well}
+use Rattle.saturation.proofs.Bridges.{past, past_i, past_far}
 use Rattle.saturation.proofs.Roots.{member_at, place_of, outright_e, outright_based}
-use Rattle.closure.specs.Closures.{earlier, Calm, Lowest, Raised, Ready, Finished, HasEvents, HasPairs, ExactHere, FirstClash}
+use Rattle.closure.specs.Closures.{earlier, Raised, Ready, Finished, HasEvents, HasPairs, ExactHere}
 use Rattle.closure.specs.declared.reach.Closure.{Closure}
-use Rattle.closure.proofs.Raises.{chains_of, ready_none, ready_raised}
+use Rattle.closure.proofs.Raises.{ready_none, ready_raised}
+use Rattle.closure.proofs.Closes.{exact_between}
 
 -- the pair at a place is of numbers from 1 to n
 pub pair_within : (n : ℕ) (S : List (ℕ × ℕ)) (k : ℕ) → PairsUpTo n S → k < length S
@@ -61,31 +61,6 @@ module _ {N W : ℕ} (r : Recorded N W) (S : List (ℕ × ℕ)) (b c d : Closure
 
     -- all that the rules force then is exactly before
     pub filled_exact : FactsOf (history_in r) f → b.count ≡ count (history_in r) → HasEvents r (earlier c) → HasPairs S (earlier d) → (e : Closure N W) → Finished f d e → ExactHere (history_in r) S e
-    filled_exact facts size given stands e done = record {
-      events = done.events ∙ most.events ∙ more.events ∙ size ∙ sym (record_count r);
-      same = λ x y. (
-        λ k. past_e (history_in r) S (record_well r) inside x y (done.grown.least Q far within (ruled_closed facts Q (past_ruled (history_in r) S (record_well r) inside)) x y k),
-        has_before (record_well r) inside (earlier e) (chains_of e)
-            (outright_based r S (earlier e) (λ x y k. done.grown.keeps x y (most.keeps x y (given x y k))) (λ x y k. done.grown.keeps x y (stands x y k)))
-            (closed_ruled facts (earlier e) done.closed) x y,
-      );
-    }
-
--- the lowest event before itself, by number
-module _ {N W : ℕ} (r : Recorded N W) (S : List (ℕ × ℕ)) (inside : PairsOfEvents (history_in r) S) (c : Closure N W) (exact : ExactHere (history_in r) S c) where
-  clash_at : (P : ℕ → Type 0) → ((x : ℕ) → earlier c x x ≡ true → P (suc x)) → (a : ℕ) → Before (history_in r) S a a → P a
-  clash_at P step zero b = let n = (before_numbers (history_in r) S (record_well r) inside b).0.low in absurd (omega arith)
-  clash_at P step (suc x) b = step x ((exact.same x x).1 b)
-
-  pub calm_clash : Calm c → Clash (history_in r) S → ⊥
-  calm_clash calm b = clash_at (λ _. ⊥) (λ x e. true≢false (sym e ∙ calm x)) b.0 b.1
-
-  pub lowest_clash_lem : (x : ℕ) → Lowest c x → FirstClash (history_in r) S (suc x)
-  lowest_clash_lem x low = record {
-    clash = (exact.same x x).0 low.clash;
-    lowest = clash_at (λ a. suc x ≤ a) (λ y e. elim (cases_lt y x) [ inl l ↦ absurd (true≢false (sym e ∙ low.lowest y l)) | inr l ↦ omega arith ]);
-  }
-
-pub cases_map : {A : Type 0} (o : Option A) (P R : Type 0) (Q T : A → Type 0) → (P → R) → ((x : A) → Q x → T x) → MatchOption o P Q → MatchOption o R T
-cases_map None P R Q T p q h = p h
-cases_map (Some x) P R Q T p q h = q x h
+    filled_exact facts size given stands e done =
+        exact_between (history_in r) S (record_well r) inside f d e facts (most.events ∙ more.events ∙ size) within
+        (outright_based r S (earlier d) (λ x y k. most.keeps x y (given x y k)) stands) done

@@ -9,7 +9,7 @@ use Rattle.sets.specs.Rows.{in_rows, widened}
 use Rattle.saturation.specs.Ties.{from_of}
 use Rattle.saturation.specs.Orders.{Transitive, Within, Closure as Smallest}
 use Rattle.saturation.specs.Laws.{Settled, Closed, Grown, Sources, Readers}
-use Rattle.closure.specs.Closures.{earlier, waits, Idle, Still, Spreads, Joined, Raised, Ready}
+use Rattle.closure.specs.Closures.{earlier, waits, Idle, Still, Spreads, Joined, Raised, Ready, HasRow}
 use Rattle.sets.specs.declared.set.EventSet.{EventSet}
 use Rattle.closure.specs.declared.reach.Closure.{Closure}
 use Rattle.closure.specs.declared.reach.Spread.{Spread}
@@ -159,6 +159,19 @@ module _ {N W : ℕ} (K : (ℕ → ℕ → Bool) → Type 0) where
     only = a.only;
     events = a.events;
   }
+
+-- one row more goes in, of rows that P gives and that every relation of the kind K has
+pub raised_row : {N W : ℕ} (K : (ℕ → ℕ → Bool) → Type 0) (P : ℕ → ℕ → Bool) (c d e : Closure N W) (x : ℕ) (s : EventSet W)
+    → Raised K c d → ((z y : ℕ) → z < x → P z y ≡ true → earlier d z y ≡ true)
+    → ((Q : ℕ → ℕ → Bool) → K Q → (y : ℕ) → P x y ≡ true → Q x y ≡ true) → ((y : ℕ) → has s y ≡ P x y) → HasRow x s (earlier e) → Raised (HasRow x s) d e
+    → Raised K c e × ((z y : ℕ) → z < x + 1 → P z y ≡ true → earlier e z y ≡ true)
+raised_row K P c d e x s a lower kind is row more = (
+  raised_then K c d e a (raised_kind (HasRow x s) K d e (λ Q all y h. kind Q all y (sym (is y) ∙ h)) more),
+  λ z y l h. elim (cases_eq z x) [
+    | inl q ↦ subst (λ k. earlier e k y ≡ true) (sym q) (row y (is y ∙ subst (λ k. P k y ≡ true) q h))
+    | inr ne ↦ more.keeps z y (lower z y (omega arith) h)
+  ],
+)
 
 module _ {N W : ℕ} (f : Facts N W) where
   -- an event is settled as long as its successors stay

@@ -5,4 +5,5 @@
 mod answers;
 mod reach;
 
-pub use answers::{clash, forced};
+pub use answers::{clash, clash_by_rows, forced, forced_by_rows};
+pub use reach::Closure;

@@ -10,6 +10,7 @@ use sets::EventSet;
 mod closing;
 mod filling;
 mod link;
+mod rows;
 
 // The rules stand here and in `Relation` of `saturation`: that one stops at a cycle, keeps a trail and promises a strict
 // order, and this one goes on and may have an event before itself. A trait for both would owe each promise twice.

@@ -8,6 +8,8 @@ use crate::source::Source;
 #[derive(Clone, Copy)]
 pub struct Events<'a, S> {
     pub(crate) source: &'a S,
+    /// How many there are.
+    pub(crate) count: u16,
     /// How many of them came.
     pub(crate) given: u16,
 }
@@ -20,7 +22,10 @@ impl<S: Source> Iterator for Events<'_, S> {
     ghost remaining = { item_count (events_left S.Source.events) };
 
     fn next(&mut self) -> Option<Event> {
-        let number = self.given.checked_add(1)?;
+        if self.given >= self.count {
+            return None;
+        }
+        let number = self.given + 1;
         let event = self.source.event(number)?;
         self.given = number;
         Some(event)

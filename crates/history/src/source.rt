@@ -33,7 +33,7 @@ pub trait Source {
     fn event(&self, number: u16) -> Option<Event>
         ensures { result ≡ numbered (events self.now) number };
 
-    /// The events, in their order.
+    /// The events, in their order. It asks for the count once, and then for one event after another.
     final fn iter(&self) -> Events<'_, Self>
     where
         Self: Sized,
@@ -41,6 +41,7 @@ pub trait Source {
     {
         Events {
             source: self,
+            count: self.count(),
             given: 0,
         }
     }

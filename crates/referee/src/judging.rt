@@ -26,7 +26,9 @@ impl Case {
         Ok(found)
     }
 
+    // Not inlined: whoever called it would pay for the size of a search at each entry.
     /// Searches, within a budget, and keeps what is before what at the node where the search succeeds.
+    #[inline(never)]
     fn decide(&mut self, budget: u32) -> Judgement
         requires { 0 < budget }
         ensures { Judged budget self.old self.new result }

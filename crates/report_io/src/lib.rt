@@ -11,8 +11,16 @@ use std::io::{Read, Write};
 
 /// Reads standard input up to 805 bytes. The longest packed history has 804; one more shows that the input is longer.
 fn read_history(rt: &HostRuntime) -> io::Result<ArrayVec<u8, 805>> {
-    let mut bytes = ArrayVec::new();
-    io::copy(&mut rt.stdin().take(805), &mut bytes)?;
+    let mut bytes = ArrayVec::from([0; 805]);
+    let mut got = 0;
+    while got < bytes.len() {
+        let n = rt.stdin().read(&mut bytes[got..])?;
+        if n == 0 {
+            break;
+        }
+        got += n;
+    }
+    bytes.truncate(got);
     Ok(bytes)
 }
 

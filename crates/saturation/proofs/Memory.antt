@@ -20,19 +20,20 @@ vector_most k q pos few =
     chain : {k x y z w : ℕ} → k ≤ 8 → x ≤ 0 + q + k → y ≤ 0 + x + 8 → z ≤ y + 8 + 1 → w ≤ z + 0 + 8 → w ≤ q + 40
     chain few a b c d = omega arith
 
--- one table of rows with its trail: p bytes of rows, q bytes of saved rows
-abbrev table : ℕ → ℕ → ℕ
-table p q = up 8 (up 8 (0 + p) + vector 8 q)
+-- one table of rows with its trail: p bytes of rows, T entries, q bytes of saved rows
+abbrev table : ℕ → ℕ → ℕ → ℕ
+table p T q = up 8 (up 8 (up 8 (up 2 (0 + p) + T * 2) + q) + 8)
 
-table_most : (p q : ℕ) → table p q ≤ p + q + 60
-table_most p q =
-    let v = vector_most 8 q (omega arith) (omega arith) in
-    let a = most 8 (0 + p) (omega arith) in
-    let b = most 8 (up 8 (0 + p) + vector 8 q) (omega arith) in
-    chain v a b
+table_most : (p T q : ℕ) → table p T q ≤ p + T * 2 + q + 40
+table_most p T q =
+    let a = most 2 (0 + p) (omega arith) in
+    let b = most 8 (up 2 (0 + p) + T * 2) (omega arith) in
+    let c = most 8 (up 8 (up 2 (0 + p) + T * 2) + q) (omega arith) in
+    let d = most 8 (up 8 (up 8 (up 2 (0 + p) + T * 2) + q) + 8) (omega arith) in
+    chain a b c d
   where
-    chain : {v x y : ℕ} → v ≤ q + 40 → x ≤ 0 + p + 8 → y ≤ x + v + 8 → y ≤ p + q + 60
-    chain v a b = omega arith
+    chain : {x y z w : ℕ} → x ≤ 0 + p + 2 → y ≤ x + T * 2 + 8 → z ≤ y + q + 8 → w ≤ z + 8 + 8 → w ≤ p + T * 2 + q + 40
+    chain a b c d = omega arith
 
 -- the ties of an event: three rows of a bytes, and a number
 abbrev ties : ℕ → ℕ
@@ -64,19 +65,19 @@ facts_most a N small few =
     chain t x y = omega arith
 
 -- the relation: two tables, a set of a bytes, and a number
-abbrev pub relation : ℕ → ℕ → ℕ → ℕ
-relation p q a = up 8 (up 8 (up 8 (up 8 (0 + table p q) + table p q) + a) + 8)
+abbrev pub relation : ℕ → ℕ → ℕ → ℕ → ℕ
+relation p T q a = up 8 (up 8 (up 8 (up 8 (0 + table p T q) + table p T q) + a) + 8)
 
-pub relation_most : (p q a : ℕ) → relation p q a ≤ 2 * (p + q) + a + 200
-relation_most p q a =
-    let t = table_most p q in
-    let x = most 8 (0 + table p q) (omega arith) in
-    let y = most 8 (up 8 (0 + table p q) + table p q) (omega arith) in
-    let z = most 8 (up 8 (up 8 (0 + table p q) + table p q) + a) (omega arith) in
-    let w = most 8 (up 8 (up 8 (up 8 (0 + table p q) + table p q) + a) + 8) (omega arith) in
+pub relation_most : (p T q a : ℕ) → relation p T q a ≤ 2 * (p + T * 2 + q) + a + 200
+relation_most p T q a =
+    let t = table_most p T q in
+    let x = most 8 (0 + table p T q) (omega arith) in
+    let y = most 8 (up 8 (0 + table p T q) + table p T q) (omega arith) in
+    let z = most 8 (up 8 (up 8 (0 + table p T q) + table p T q) + a) (omega arith) in
+    let w = most 8 (up 8 (up 8 (up 8 (0 + table p T q) + table p T q) + a) + 8) (omega arith) in
     chain t x y z w
   where
-    chain : {t x y z w : ℕ} → t ≤ p + q + 60 → x ≤ 0 + t + 8 → y ≤ x + t + 8 → z ≤ y + a + 8 → w ≤ z + 8 + 8 → w ≤ 2 * (p + q) + a + 200
+    chain : {t x y z w : ℕ} → t ≤ p + T * 2 + q + 40 → x ≤ 0 + t + 8 → y ≤ x + t + 8 → z ≤ y + a + 8 → w ≤ z + 8 + 8 → w ≤ 2 * (p + T * 2 + q) + a + 200
     chain a b c d e = omega arith
 
 -- the record of a case: a vector of events, six bytes each, and p bytes of rows
@@ -102,15 +103,8 @@ module _ (N W T : ℕ) (wide : N ≤ 64 * W) (narrow : W ≤ 1024) where
   pub rows_most : N * up 8 (0 + W * 8) ≤ 65536 * 8200
   rows_most = mul-le-mul {n₁ = N} {m₁ = up 8 (0 + W * 8)} {n₂ = 65536} {m₂ = 8200} (omega arith) row_most
 
-  -- a saved row is a row with a number of two bytes
-  pub saved_most : up 8 (up 2 (0 + up 8 (0 + W * 8)) + 2) ≤ 8220
-  saved_most = saved row_most (most 2 (0 + up 8 (0 + W * 8)) (omega arith)) (most 8 (up 2 (0 + up 8 (0 + W * 8)) + 2) (omega arith))
-    where
-      saved : {r x y : ℕ} → r ≤ 8200 → x ≤ 0 + r + 2 → y ≤ x + 2 + 8 → y ≤ 8220
-      saved a b c = omega arith
-
-  pub trail_most : T < 2 ^ 32 → T * up 8 (up 2 (0 + up 8 (0 + W * 8)) + 2) ≤ 2 ^ 32 * 8220
-  trail_most short = mul-le-mul {n₁ = T} {m₁ = up 8 (up 2 (0 + up 8 (0 + W * 8)) + 2)} {n₂ = 2 ^ 32} {m₂ = 8220} (omega arith) saved_most
+  pub trail_most : T < 2 ^ 32 → T * up 8 (0 + W * 8) ≤ 2 ^ 32 * 8200
+  trail_most short = mul-le-mul {n₁ = T} {m₁ = up 8 (0 + W * 8)} {n₂ = 2 ^ 32} {m₂ = 8200} (omega arith) row_most
 
   pub case_small : case (N * up 8 (0 + W * 8)) N < 2 ^ 63
   case_small = chain (case_most _ N) rows_most
@@ -124,10 +118,10 @@ module _ (N W T : ℕ) (wide : N ≤ 64 * W) (narrow : W ≤ 1024) where
       chain : {x : ℕ} → x ≤ 65536 * 24628 + 24 → x < 2 ^ 63
       chain h = omega arith
 
-  pub relation_small : T < 2 ^ 32 → relation (N * up 8 (0 + W * 8)) (T * up 8 (up 2 (0 + up 8 (0 + W * 8)) + 2)) (up 8 (0 + W * 8)) < 2 ^ 63
-  relation_small short = chain (relation_most _ _ _) rows_most (trail_most short) row_most
+  pub relation_small : T < 2 ^ 32 → relation (N * up 8 (0 + W * 8)) T (T * up 8 (0 + W * 8)) (up 8 (0 + W * 8)) < 2 ^ 63
+  relation_small short = chain (relation_most _ T _ _) rows_most (trail_most short) row_most
     where
-      chain : {x p q a : ℕ} → x ≤ 2 * (p + q) + a + 200 → p ≤ 65536 * 8200 → q ≤ 2 ^ 32 * 8220 → a ≤ 8200 → x < 2 ^ 63
+      chain : {x p q a : ℕ} → x ≤ 2 * (p + T * 2 + q) + a + 200 → p ≤ 65536 * 8200 → q ≤ 2 ^ 32 * 8200 → a ≤ 8200 → x < 2 ^ 63
       chain a b c d = omega arith
 
   pub rows_small : (N * up 8 (0 + W * 8) < 2 ^ 63) × (up 8 (0 + W * 8) < 2 ^ 63)

@@ -1,8 +1,19 @@
 -- What a loop over numbers has gathered so far, as a test of the numbers below its counter.
-use Rattle.std.proofs.Common.{◌≡◌, ℕ, ◌+◌, ◌<◌, Bool, true, false, ◌&&◌, ◌||◌, ltb, ◌≢◌, sym, refl, ap, ◌∙◌, inl, inr, arith}
-use Rattle.std.proofs.lemmas.Bool.{cases_order, cases_Bool, lt-ltb, le-ltb, and_right}
+use Rattle.std.proofs.Common.{◌≡◌, ℕ, ◌+◌, ◌<◌, ◌≤◌, Bool, true, false, ◌&&◌, ◌||◌, ltb, ◌≢◌, sym, refl, ap, ◌∙◌, inl, inr, arith}
+use Rattle.std.proofs.lemmas.Bool.{cases_order, cases_lt, cases_Bool, lt-ltb, le-ltb, and_right}
 
 module _ (f K : ℕ → Bool) (i : ℕ) where
+  -- nothing below i is to be gathered
+  pub none_yet : ((y : ℕ) → f y ≡ false) → ((y : ℕ) → K y ≡ true → i ≤ y) → (y : ℕ) → f y ≡ (ltb y i && K y)
+  none_yet none late y =
+      elim (cases_lt y i) [
+        | inr l ↦ rw (none y, le-ltb y i l)
+        | inl l ↦ elim (cases_Bool (K y)) [
+          | inl t ↦ let k = late y t in absurd (omega arith)
+          | inr t ↦ rw (none y, t) (sym (and_right (ltb y i) false refl))
+        ]
+      ]
+
   -- i itself is looked at
   pub one_more : (g : ℕ → Bool) → ((y : ℕ) → f y ≡ (ltb y i && K y)) → ((y : ℕ) → y ≢ i → g y ≡ f y) → g i ≡ K i → (y : ℕ) → g y ≡ (ltb y (i + 1) && K y)
   one_more g so other here y =

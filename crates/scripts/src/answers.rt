@@ -32,9 +32,10 @@ pub(crate) fn print_questions<S: Source>(
 ) -> Result<(), Trouble> {
     print_head(rt, source)?;
     match source.event(number) {
-        Some(event) => println!(rt; " {event}")?,
-        None => println!(rt; " absent")?,
+        Some(event) => print!(rt; " {event}")?,
+        None => print!(rt; " absent")?,
     }
+    println!(rt; "")?;
     Ok(())
 }
 

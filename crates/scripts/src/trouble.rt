@@ -1,5 +1,5 @@
 //! Why a line has no answer.
-ghost use Rattle.std.specs.Prelude.{◌≡◌, ◌≢◌};
+ghost use Rattle.std.specs.Prelude.{◌≡◌, ◌≢◌, ◌↔◌};
 
 use hex::FromHexError;
 use std::alloc::{AllocError, AllocFailed};
@@ -66,7 +66,7 @@ impl From<FromHexError> for Trouble {
     ghost use Rattle.hex.specs.declared.error.FromHexError.TheVariants.{OutOfMemory};
     ghost use Rattle.scripts.specs.declared.trouble.Trouble.TheVariants.{Unfit};
 
-    ghost from_gives = { λ e t. t ≡ Unfit → e ≢ OutOfMemory };
+    ghost from_gives = { λ e t. (t ≡ Unfit) ↔ (e ≢ OutOfMemory) };
 
     fn from(e: FromHexError) -> Trouble {
         match e {

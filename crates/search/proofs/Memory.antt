@@ -6,23 +6,23 @@ use Rattle.saturation.proofs.Memory.{most, vector, vector_most, facts, facts_mos
 
 -- the walk: facts, relation, T choices, and what the root is
 abbrev walk : ℕ → ℕ → ℕ → ℕ → ℕ → ℕ
-walk p N T q a = up 8 (up 1 (up 8 (up 8 (0 + facts a N) + relation p q a) + vector 4 (T * 12)) + 1)
+walk p N T q a = up 8 (up 1 (up 8 (up 8 (0 + facts a N) + relation p T q a) + vector 4 (T * 12)) + 1)
 
-walk_most : (p N T q a : ℕ) → p ≤ 65536 * 8200 → N ≤ 65536 → T < 2 ^ 32 → q ≤ 2 ^ 32 * 8220 → a ≤ 8200 → walk p N T q a < 2 ^ 63
+walk_most : (p N T q a : ℕ) → p ≤ 65536 * 8200 → N ≤ 65536 → T < 2 ^ 32 → q ≤ 2 ^ 32 * 8200 → a ≤ 8200 → walk p N T q a < 2 ^ 63
 walk_most p N T q a hp hN hT hq ha =
     let f = facts_most a N ha hN in
-    let r = relation_most p q a in
+    let r = relation_most p T q a in
     let t = vector_most 4 (T * 12) (omega arith) (omega arith) in
     let x = most 8 (0 + facts a N) (omega arith) in
-    let y = most 8 (up 8 (0 + facts a N) + relation p q a) (omega arith) in
-    let z = most 1 (up 8 (up 8 (0 + facts a N) + relation p q a) + vector 4 (T * 12)) (omega arith) in
-    let w = most 8 (up 1 (up 8 (up 8 (0 + facts a N) + relation p q a) + vector 4 (T * 12)) + 1) (omega arith) in
+    let y = most 8 (up 8 (0 + facts a N) + relation p T q a) (omega arith) in
+    let z = most 1 (up 8 (up 8 (0 + facts a N) + relation p T q a) + vector 4 (T * 12)) (omega arith) in
+    let w = most 8 (up 1 (up 8 (up 8 (0 + facts a N) + relation p T q a) + vector 4 (T * 12)) + 1) (omega arith) in
     chain f r t x y z w
   where
-    chain : {f r t x y z w : ℕ} → f ≤ 65536 * 24628 + 24 → r ≤ 2 * (p + q) + a + 200 → t ≤ T * 12 + 40 → x ≤ 0 + f + 8 → y ≤ x + r + 8 → z ≤ y + t + 1 → w ≤ z + 1 + 8 → w < 2 ^ 63
+    chain : {f r t x y z w : ℕ} → f ≤ 65536 * 24628 + 24 → r ≤ 2 * (p + T * 2 + q) + a + 200 → t ≤ T * 12 + 40 → x ≤ 0 + f + 8 → y ≤ x + r + 8 → z ≤ y + t + 1 → w ≤ z + 1 + 8 → w < 2 ^ 63
     chain f r t x y z w = omega arith
 
-pub walk_small : {N W T : ℕ} → Roomy N W T → walk (N * up 8 (0 + W * 8)) N T (T * up 8 (up 2 (0 + up 8 (0 + W * 8)) + 2)) (up 8 (0 + W * 8)) < 2 ^ 63
+pub walk_small : {N W T : ℕ} → Roomy N W T → walk (N * up 8 (0 + W * 8)) N T (T * up 8 (0 + W * 8)) (up 8 (0 + W * 8)) < 2 ^ 63
 walk_small {N} {W} {T} room =
     let wide = room.wide in
     let narrow = room.narrow in

@@ -6,4 +6,4 @@ mod tree;
 mod walk;
 
 pub use tree::Search;
-pub use walk::Progress;
+pub use walk::{Choice, Progress, Walk};

@@ -1,12 +1,18 @@
-use Rattle.std.proofs.Common.{◌≡◌, ℕ, zero, suc, ◌<◌, ◌≤◌, Bool, true, false, cond, not, ◌&&◌, ◌||◌, eqb, ◌≢◌, List, [], ◌∷◌, ◌++◌, fold, reverse, drop, length, get_or, set, replicate, sym, refl, ap, ◌∙◌, inl, inr, arith, length-set, drop_of_length-le}
+use Rattle.std.proofs.Common.{◌≡◌, ℕ, zero, suc, ◌+◌, ◌-◌, ◌<◌, ◌≤◌, Bool, true, false, cond, not, ◌&&◌, ◌||◌, eqb, ◌≢◌, List, [], ◌∷◌, length, get_or, set, replicate, sym, refl, ap, ◌∙◌, inl, inr, arith, length-set}
 use mathlib.Core.Bool.{or-false, or_comm}
-use Rattle.std.proofs.lemmas.List.{get_or-set_same, get_or-set_other, get_or_past, drop-append-le, reverse-append}
+use Rattle.std.proofs.lemmas.List.{get_or-set_same, get_or-set_other, get_or_past}
 use Rattle.std.proofs.lemmas.Bool.{cases_lt, cases_eq, cases_Bool, eq-eqb, ne_eqb, eqb-true, or_cases, and_parts}
 use Rattle.sets.specs.Sets.{has}
 use Rattle.sets.specs.declared.set.EventSet.{EventSet}
-use Rattle.sets.specs.Rows.{in_rows, in_row, restored, trail_len, undone, PutIn, RowsKept}
-use Rattle.sets.specs.declared.table.Saved.{Saved}
+use Rattle.sets.specs.Rows.{in_rows, in_row, restored, taken_back, undone, PutIn, RowsKept}
 use Rattle.sets.specs.declared.table.Table.{Table}
+
+back_one : (R S : ℕ → ℕ → Bool) (x p y : ℕ) (b : Bool) → ((z y : ℕ) → z ≢ x → S z y ≡ R z y) → b ≡ R x y → cond (eqb p x) b (S p y) ≡ R p y
+back_one R S x p y b other mine =
+    elim (cases_eq p x) [
+      | inl e ↦ rw (eq-eqb p x e, e) mine
+      | inr ne ↦ rw (ne_eqb p x ne) (other p y ne)
+    ]
 
 module _ {W : ℕ} where
   pub in_get : (rows : List (EventSet W)) (x : ℕ) (r : EventSet W) → x < length rows → (y : ℕ) → in_rows rows x y ≡ has (get_or rows x r) y
@@ -31,19 +37,13 @@ module _ {W : ℕ} where
   in_fill (suc n) r h zero y = h y
   in_fill (suc n) r h (suc x) y = in_fill n r h x y
 
-  -- more is put into one set
-  pub more_in : (rows : List (EventSet W)) (x : ℕ) (d r : EventSet W) (m : ℕ → Bool) → x < length rows → ((y : ℕ) → has r y ≡ (has (get_or rows x d) y || m y))
-      → (z y : ℕ) → in_rows (set rows x r) z y ≡ (in_rows rows z y || (eqb z x && m y))
-  more_in rows x d r m l h z y =
-      elim (cases_eq z x) [
-        | inl e ↦ rw (e, eq-eqb x x refl, in_get rows x d l y) (in_set_same rows x r l y ∙ h y)
-        | inr ne ↦ rw (ne_eqb z x ne) (in_set_other rows x r z ne y ∙ sym (or-false (in_rows rows z y)))
-      ]
-
   -- an event is put into one set
   pub put_in : (rows : List (EventSet W)) (x y : ℕ) (d r : EventSet W) → x < length rows → ((k : ℕ) → has r k ≡ (eqb k y || has (get_or rows x d) k)) → PutIn rows (set rows x r) x y
   put_in rows x y d r l h z k =
-      more_in rows x d r (λ j. eqb j y) l (λ j. h j ∙ or_comm (eqb j y) (has (get_or rows x d) j)) z k
+      elim (cases_eq z x) [
+        | inl e ↦ rw (e, eq-eqb x x refl) (in_set_same rows x r l k ∙ h k ∙ or_comm (eqb k y) (has (get_or rows x d) k) ∙ ap (λ b. b || (true && eqb k y)) (sym (in_get rows x d l k)))
+        | inr ne ↦ rw (ne_eqb z x ne) (in_set_other rows x r z ne k ∙ sym (or-false (in_rows rows z k)))
+      ]
 
   pub put_below : (rs ss : List (EventSet W)) (x y n : ℕ) → PutIn rs ss x y → y < n → ((w r : ℕ) → in_rows rs w r ≡ true → r < n) → (w r : ℕ) → in_rows ss w r ≡ true → r < n
   put_below rs ss x y n put l all w r h =
@@ -52,30 +52,41 @@ module _ {W : ℕ} where
         | inr b ↦ rw (eqb-true r y (and_parts (eqb w x) (eqb r y) b).1) l
       ]
 
-  -- a row is put back over what it became
-  pub back_over : (rows : List (EventSet W)) (x : ℕ) (d r : EventSet W) → x < length rows
-      → (z y : ℕ) → cond (eqb z x) (has (get_or rows x d) y) (in_rows (set rows x r) z y) ≡ in_rows rows z y
-  back_over rows x d r l z y =
-      elim (cases_eq z x) [
-        | inl e ↦ rw (e, eq-eqb x x refl) (sym (in_get rows x d l y))
-        | inr ne ↦ rw (ne_eqb z x ne) (in_set_other rows x r z ne y)
-      ]
+  -- the entry n of the trail does not matter below it
+  stays : (at : List ℕ) (old : List (EventSet W)) (k m n a : ℕ) (r : EventSet W) (R : ℕ → ℕ → Bool) → k + m ≤ n
+      → taken_back (set at n a) (set old n r) k m R ≡ taken_back at old k m R
+  stays at old k zero n a r R l = refl
+  stays at old k (suc m) n a r R l =
+      let ne : k + m ≢ n = omega arith in
+      let same : restored (set at n a) (set old n r) (k + m) R ≡ restored at old (k + m) R
+      = λ i x y. cond (eqb x (get_or-set_other at n (k + m) a 0 ne i)) (in_set_other old n r (k + m) ne y i) (R x y) in
+      stays at old k m n a r (restored (set at n a) (set old n r) (k + m) R) (omega arith) ∙ ap (λ (Q : ℕ → ℕ → Bool). taken_back at old k m Q) same
 
-  -- a row is put back
-  pub back_in : (rows : List (EventSet W)) (s : Saved W) → s.of < length rows
-      → (z y : ℕ) → restored (in_rows rows) s z y ≡ in_rows (set rows s.of s.row) z y
-  back_in rows s l z y =
-      elim (cases_eq z s.of) [
-        | inl e ↦ rw (e, eq-eqb s.of s.of refl) (sym (in_set_same rows s.of s.row l y))
-        | inr ne ↦ rw (ne_eqb z s.of ne) (sym (in_set_other rows s.of s.row z ne y))
-      ]
+  -- one row is changed, and stands on the trail as it was
+  pub pushed : (at : List ℕ) (old : List (EventSet W)) (n x : ℕ) (r : EventSet W) (R S : ℕ → ℕ → Bool) → n < length at → n < length old
+      → ((y : ℕ) → has r y ≡ R x y) → ((z y : ℕ) → z ≢ x → S z y ≡ R z y)
+      → (k : ℕ) → k ≤ n → taken_back (set at n x) (set old n r) k (n + 1 - k) S ≡ taken_back at old k (n - k) R
+  pushed at old n x r R S la lo mine other k lk =
+      let s : n + 1 - k ≡ suc (n - k) = omega arith in
+      let q : k + (n - k) ≡ n = omega arith in
+      let there : restored (set at n x) (set old n r) n S ≡ R
+      = λ i p y. (ap (λ a. cond (eqb p a) (in_rows (set old n r) n y) (S p y)) (get_or-set_same at n x 0 la)
+      ∙ back_one R S x p y (in_rows (set old n r) n y) other (in_set_same old n r lo y ∙ mine y)) i in
+      ap (λ m. taken_back (set at n x) (set old n r) k m S) s
+      ∙ ap (λ m. taken_back (set at n x) (set old n r) k (n - k) (restored (set at n x) (set old n r) m S)) q
+      ∙ ap (λ (Q : ℕ → ℕ → Bool). taken_back (set at n x) (set old n r) k (n - k) Q) there
+      ∙ stays at old k (n - k) n x r R (omega arith)
 
-  -- the row that was saved last is put back first
-  pub last_back : (xs ys : List (Saved W)) (s : Saved W) (R S : ℕ → ℕ → Bool) → ys ≡ xs ++ s ∷ [] → ((z y : ℕ) → restored S s z y ≡ R z y)
-      → (k : ℕ) → k ≤ length xs → fold restored S (reverse (drop k ys)) ≡ fold restored R (reverse (drop k xs))
-  last_back xs ys s R S more same k l =
-      rw (more, drop-append-le k xs (s ∷ []) l, reverse-append (drop k xs) (s ∷ []))
-      (ap (λ (Q : ℕ → ℕ → Bool). fold restored Q (reverse (drop k xs))) (λ i z y. same z y i))
+  -- the last entry is taken back
+  pub popped : (at : List ℕ) (old : List (EventSet W)) (n : ℕ) (R S : ℕ → ℕ → Bool) → ((x y : ℕ) → S x y ≡ restored at old n R x y)
+      → (k : ℕ) → k ≤ n → taken_back at old k (n - k) S ≡ taken_back at old k (n + 1 - k) R
+  popped at old n R S is k lk =
+      let s : n + 1 - k ≡ suc (n - k) = omega arith in
+      let q : k + (n - k) ≡ n = omega arith in
+      let e : S ≡ restored at old n R = λ i x y. is x y i in
+      ap (λ (Q : ℕ → ℕ → Bool). taken_back at old k (n - k) Q) e
+      ∙ ap (λ m. taken_back at old k (n - k) (restored at old m R)) (sym q)
+      ∙ ap (λ m. taken_back at old k m R) (sym s)
 
 -- the source of one event is set
 pub source_below : (fs : List ℕ) (r w n : ℕ) → w < n → ((x : ℕ) → x < n → get_or fs x 0 < n) → (x : ℕ) → x < n → get_or (set fs r w) x 0 < n
@@ -100,16 +111,16 @@ module _ {N W T : ℕ} where
   }
 
   -- nothing is to be taken back
-  pub undone_none : (t : Table N W T) → undone t (trail_len t) ≡ in_row t
-  undone_none t = ap (λ (xs : List (Saved W)). fold restored (in_row t) (reverse xs)) (drop_of_length-le t.trail.items {i = length t.trail.items} (omega arith))
+  pub undone_none : (t : Table N W T) → undone t t.len ≡ in_row t
+  undone_none t = let z : t.len - t.len ≡ 0 = omega arith in ap (λ m. taken_back t.at t.saved t.len m (in_row t)) z
 
   -- two tables that one trail leads back to, at one length, have the same rows
-  pub rows_again : (t u s : Table N W T) → RowsKept t s → RowsKept u s → trail_len u ≡ trail_len t → in_row u ≡ in_row t
+  pub rows_again : (t u s : Table N W T) → RowsKept t s → RowsKept u s → u.len ≡ t.len → in_row u ≡ in_row t
   rows_again t u s a b e =
-      sym (undone_none u) ∙ sym (b.back (trail_len u) (omega arith)) ∙ ap (undone s) e ∙ a.back (trail_len t) (omega arith) ∙ undone_none t
+      sym (undone_none u) ∙ sym (b.back u.len (omega arith)) ∙ ap (undone s) e ∙ a.back t.len (omega arith) ∙ undone_none t
 
   -- of two tables that one trail leads back to, the one with the longer trail leads back to the other
-  pub rows_under : (t u s : Table N W T) → RowsKept t s → RowsKept u s → trail_len t ≤ trail_len u → RowsKept t u
+  pub rows_under : (t u s : Table N W T) → RowsKept t s → RowsKept u s → t.len ≤ u.len → RowsKept t u
   rows_under t u s a b l = record {
     longer = l;
     back = λ k h. sym (b.back k (omega arith)) ∙ a.back k h;

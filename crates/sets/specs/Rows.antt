@@ -1,8 +1,6 @@
-use Rattle.std.specs.Prelude.{◌≡◌, ℕ, zero, suc, ◌≤◌, Bool, false, cond, ◌&&◌, ◌||◌, List, [], ◌∷◌, ◌==◌, drop, reverse, fold}
-use Rattle.arrayvec.specs.ArrayVec.{array_vec_len}
+use Rattle.std.specs.Prelude.{◌≡◌, ℕ, zero, suc, ◌+◌, ◌-◌, ◌≤◌, Bool, false, cond, ◌&&◌, ◌||◌, List, [], ◌∷◌, ◌==◌, slice_index}
 use Rattle.sets.specs.Sets.{has}
 use Rattle.sets.specs.declared.set.EventSet.{EventSet}
-use Rattle.sets.specs.declared.table.Saved.{Saved}
 use Rattle.sets.specs.declared.table.Table.{Table}
 
 -- whether y is in the set at x
@@ -21,15 +19,20 @@ in_row t = in_rows t.rows
 
 -- how long the trail of t is
 abbrev pub trail_len : {N W T : ℕ} → Table N W T → ℕ
-trail_len t = array_vec_len t.trail
+trail_len t = t.len
 
--- R with one row as it was saved
-abbrev pub restored : {W : ℕ} → (ℕ → ℕ → Bool) → Saved W → ℕ → ℕ → Bool
-restored R s x y = cond (x == s.of) (has s.row y) (R x y)
+-- R with one row as the entry i of the trail has it
+abbrev pub restored : {W : ℕ} → List ℕ → List (EventSet W) → ℕ → (ℕ → ℕ → Bool) → ℕ → ℕ → Bool
+restored at old i R x y = cond (x == slice_index at i) (in_rows old i y) (R x y)
 
--- the rows of t once the trail is taken back to the length k, the last entry first
+-- R once the m entries of the trail from k on are taken back, the last first
+abbrev pub taken_back : {W : ℕ} → List ℕ → List (EventSet W) → ℕ → ℕ → (ℕ → ℕ → Bool) → ℕ → ℕ → Bool
+taken_back at old k zero R = R
+taken_back at old k (suc m) R = taken_back at old k m (restored at old (k + m) R)
+
+-- the rows of t once the trail is taken back to the length k
 abbrev pub undone : {N W T : ℕ} → Table N W T → ℕ → ℕ → ℕ → Bool
-undone t k = fold restored (in_row t) (reverse (drop k t.trail.items))
+undone t k = taken_back t.at t.saved k (trail_len t - k) (in_row t)
 
 -- the trail of s leads back to t, and on to all that the trail of t leads back to
 pub record RowsKept {N W T : ℕ} (t s : Table N W T) : Type 0 where

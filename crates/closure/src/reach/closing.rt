@@ -4,7 +4,7 @@ ghost use Rattle.sets.specs.Rows.{in_rows};
 ghost use Rattle.saturation.specs.Ties.{takers_of};
 ghost use Rattle.saturation.specs.Laws.{Closed, Sources, Readers, Settled};
 ghost use Rattle.saturation.specs.Recorded.{history_in};
-ghost use Rattle.closure.specs.Closures.{earlier, waits, Raised, Ready, Finished, Fits, After, Leads, ExactHere};
+ghost use Rattle.closure.specs.Closures.{earlier, waits, Raised, Ready, Finished, MadeExact, Fits, After, Leads, ExactHere};
 
 use super::Closure;
 use saturation::{Facts, Stipulated};
@@ -63,7 +63,8 @@ impl<const N: usize, const W: usize> Closure<N, W> {
     pub fn saturate(&mut self, facts: &Facts<N, W>)
         requires events { facts.now.count ≡ self.old.count }
         requires ready { Ready facts.now self.old }
-        ensures { Finished facts.now self.old self.new }
+        ensures finished { Finished facts.now self.old self.new }
+        ensures exact { MadeExact facts.now self.old self.new }
     {
         while let Some(w) = self.next_waiting() {
             self.settle(facts, w);

@@ -1,13 +1,14 @@
 //! How pairs that are given go into a closure.
 ghost use Rattle.std.specs.Prelude.{◌≡◌, ℕ, ◌<◌, true};
 ghost use Rattle.sets.specs.Sets.{has};
+ghost use Rattle.saturation.specs.Ties.{takers_of};
 ghost use Rattle.saturation.specs.Recorded.{history_in};
 ghost use Rattle.order.specs.History.{count};
 ghost use Rattle.saturation.specs.Rooting.{PairsUpTo};
-ghost use Rattle.closure.specs.Closures.{earlier, Raised, HasRow, HasEvents, HasPairs};
+ghost use Rattle.closure.specs.Closures.{earlier, Raised, RowsBelow, HasRow, HasRows, HasEvents, HasPairs};
 
 use super::Closure;
-use saturation::Recorded;
+use saturation::{Facts, Recorded};
 use sets::EventSet;
 
 impl<const N: usize, const W: usize> Closure<N, W> {
@@ -21,6 +22,30 @@ impl<const N: usize, const W: usize> Closure<N, W> {
         let mut rest = *row;
         while let Some(y) = rest.pop() {
             self.link(x, y);
+        }
+    }
+
+    /// Puts each event before all events of its row.
+    pub fn link_rows(&mut self, rows: &[EventSet<W>; N])
+        requires { RowsBelow self.old.count rows.now }
+        ensures linked { HasRows self.old.count rows.now (earlier self.new) }
+        ensures raised { Raised (HasRows self.old.count rows.now) self.old self.new }
+    {
+        // Only the rows of events are linked: N may be more than there are.
+        for x in 0..self.count {
+            self.link_row(x, &rows[x]);
+        }
+    }
+
+    /// Puts each write before the reads that take from it.
+    pub(crate) fn link_takers(&mut self, facts: &Facts<N, W>)
+        requires { facts.now.count ≡ self.old.count }
+        ensures linked { HasRows self.old.count (takers_of facts.now.ties) (earlier self.new) }
+        ensures raised { Raised (HasRows self.old.count (takers_of facts.now.ties)) self.old self.new }
+    {
+        // w is an event, and no element of a list: the facts lend what they say of one event.
+        for w in 0..self.count {
+            self.link_row(w, &facts.ties(w).takers);
         }
     }
 

@@ -20,8 +20,8 @@ impl<const N: usize, const W: usize> Recorded<N, W> {
     {
         let listed = events.as_slice();
         let mut kept = [EventSet::new(); N];
-        for (x, row) in kept.iter_mut().enumerate() {
-            *row = kept_after(listed, rule, x);
+        for x in 0..listed.len() {
+            kept[x] = kept_after(listed, rule, x);
         }
         Recorded { events, kept }
     }
@@ -51,12 +51,12 @@ impl<const N: usize, const W: usize> Recorded<N, W> {
 
 /// The events after `x` that have to stay after it.
 fn kept_after<R: Rule, const W: usize>(events: &[Event], rule: &R, x: usize) -> EventSet<W>
-    requires { length events.now ≤ 64 * W }
+    requires { (x < length events.now) × (length events.now ≤ 64 * W) }
     ensures { (y : ℕ) → has result y ≡ kept_by (R.Rule.keeps rule.now) events.now (suc x) (suc y) }
 {
     let mut row = EventSet::new();
-    for (y, later) in events.iter().enumerate() {
-        if x < y && keeps_pair(rule, events[x], *later) {
+    for y in x + 1..events.len() {
+        if keeps_pair(rule, events[x], events[y]) {
             row.insert(y);
         }
     }

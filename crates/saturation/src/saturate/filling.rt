@@ -29,7 +29,7 @@ impl<const N: usize, const W: usize> Facts<N, W> {
     // Three functions: each keeps another invariant of `Facts`, which `note` would have to keep in place.
 
     /// Says that `q` is another write of the star of the write `w`.
-    pub(crate) fn add_mate(&mut self, w: usize, q: usize)
+    pub fn add_mate(&mut self, w: usize, q: usize)
         requires { (w < self.old.count) × (q < self.old.count) }
         ensures mates { PutIn (mates_of self.old.ties) (mates_of self.new.ties) w q }
         ensures rest { (others_of self.new.ties ≡ others_of self.old.ties) × (takers_of self.new.ties ≡ takers_of self.old.ties) }
@@ -39,7 +39,7 @@ impl<const N: usize, const W: usize> Facts<N, W> {
     }
 
     /// Says that the read `r` takes from the write `w`.
-    pub(crate) fn add_taker(&mut self, w: usize, r: usize)
+    pub fn add_taker(&mut self, w: usize, r: usize)
         requires { (w < self.old.count) × (r < self.old.count) }
         ensures takers { PutIn (takers_of self.old.ties) (takers_of self.new.ties) w r }
         ensures source { from_of self.new.ties ≡ slice_set (from_of self.old.ties) r w }
@@ -51,7 +51,7 @@ impl<const N: usize, const W: usize> Facts<N, W> {
     }
 
     /// Says that the read `r` is of the star of the write `w`, and takes from another write.
-    pub(crate) fn add_other(&mut self, w: usize, r: usize)
+    pub fn add_other(&mut self, w: usize, r: usize)
         requires { (w < self.old.count) × (r < self.old.count) }
         ensures others { PutIn (others_of self.old.ties) (others_of self.new.ties) w r }
         ensures rest { (mates_of self.new.ties ≡ mates_of self.old.ties) × (takers_of self.new.ties ≡ takers_of self.old.ties) }

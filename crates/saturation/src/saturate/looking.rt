@@ -7,6 +7,13 @@ ghost use Rattle.saturation.specs.Ties.{others_of, mates_of, takers_of, from_of}
 use super::{Facts, Ties};
 
 impl<const N: usize, const W: usize> Facts<N, W> {
+    /// How many events there are.
+    pub fn count(&self) -> usize
+        ensures { result ≡ self.now.count }
+    {
+        self.count
+    }
+
     /// What the event `x` has to do with others.
     pub fn ties(&self, x: usize) -> &Ties<W>
         requires { x < N }

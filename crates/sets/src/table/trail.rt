@@ -3,9 +3,8 @@ ghost use Rattle.std.specs.Prelude.{◌≡◌, ℕ, ◌+◌, ◌*◌, ◌<◌, �
 ghost use Rattle.sets.specs.Sets.{has, size};
 ghost use Rattle.sets.specs.Rows.{in_row, in_rows, trail_len, undone, widened, RowsKept};
 
-use super::{Saved, Table};
+use super::Table;
 use crate::set::EventSet;
-use arrayvec::ArrayVec;
 
 impl<const N: usize, const W: usize, const T: usize> Table<N, W, T> {
     /// A table of empty rows, with nothing on its trail.
@@ -14,9 +13,12 @@ impl<const N: usize, const W: usize, const T: usize> Table<N, W, T> {
         ensures rows { (x y : ℕ) → in_row result x y ≡ false }
         ensures len { trail_len result ≡ 0 }
     {
+        let empty = EventSet::new();
         Table {
-            rows: [EventSet::new(); N],
-            trail: ArrayVec::new(),
+            rows: [empty; N],
+            at: [0; T],
+            saved: [empty; T],
+            len: 0,
         }
     }
 
@@ -26,7 +28,7 @@ impl<const N: usize, const W: usize, const T: usize> Table<N, W, T> {
         ensures len { trail_len self.new ≡ 0 }
     {
         self.rows.fill(EventSet::new());
-        self.trail.clear();
+        self.len = 0;
     }
 
     /// The row of `x`.
@@ -57,7 +59,7 @@ impl<const N: usize, const W: usize, const T: usize> Table<N, W, T> {
     pub fn mark(&self) -> usize
         ensures { result ≡ trail_len self.now }
     {
-        self.trail.len()
+        self.len
     }
 
     /// Adds more to the row of `x`, which the trail keeps as it was.
@@ -68,8 +70,13 @@ impl<const N: usize, const W: usize, const T: usize> Table<N, W, T> {
         ensures back { RowsKept self.old self.new }
     {
         let row = self.rows[x];
-        self.rows[x].union_with(more);
-        self.trail.push(Saved { row, of: x as u16 });
+        let mut wide = row;
+        wide.union_with(more);
+        let len = self.len;
+        self.at[len] = x as u16;
+        self.saved[len] = row;
+        self.rows[x] = wide;
+        self.len = len + 1;
     }
 
     /// Adds more to each row that is picked.
@@ -93,13 +100,12 @@ impl<const N: usize, const W: usize, const T: usize> Table<N, W, T> {
         ensures rows { in_row self.new ≡ undone self.old mark }
         ensures back { RowsKept self.new self.old }
     {
-        // Read from the back and cut once: a `pop` for each row made the search slower.
-        let mut len = self.trail.len();
-        while len > mark {
-            len -= 1;
-            let saved = self.trail[len];
-            self.rows[saved.of as usize] = saved.row;
+        while self.len > mark {
+            let last = self.len - 1;
+            let row = self.saved[last];
+            let x = self.at[last] as usize;
+            self.rows[x] = row;
+            self.len = last;
         }
-        self.trail.truncate(mark);
     }
 }

@@ -1,12 +1,11 @@
-use Rattle.std.proofs.Common.{◌≡◌, ℕ, ◌<◌, true, [], sym, ◌∙◌, subst, inl, inr, arith, rules}
-use Rattle.std.proofs.lemmas.Bool.{cases_eq}
+use Rattle.std.proofs.Common.{◌≡◌, ℕ, ◌<◌, true, [], sym, ◌∙◌, arith, rules}
 use Rattle.sets.specs.Sets.{has}
 use Rattle.saturation.specs.Recorded.{history_in}
 use Rattle.order.specs.History.{count}
 use Rattle.saturation.specs.Rooting.{leads_in}
 use Rattle.saturation.proofs.Roots.{leads_below}
-use Rattle.closure.specs.Closures.{earlier, HasRow, HasEvents}
-use Rattle.closure.proofs.Raises.{raised_same, raised_then, raised_kind}
+use Rattle.closure.specs.Closures.{HasEvents}
+use Rattle.closure.proofs.Raises.{raised_same, raised_row}
 use Rattle.closure.proofs.reach.Closure.link_events.Goals as goal
 
 pub loop-x-init : goal.loop-x-init
@@ -22,18 +21,10 @@ link_row-requires g c =
 
 pub loop-x-preserved : goal.loop-x-preserved
 loop-x-preserved g c =
-    let x : ℕ = c.loop-x.x in
-    let r = c.args.case.now in
-    let a = c.link_row.ensures in
     let e = c.requires in
-    let lx : c.loop-x.x < count (history_in c.args.case.now) = omega arith in (
-      raised_then (HasEvents r) c.args.self.now c.loop-x.self c.link_row.new.self c.loop-x.invariant.0
-          (raised_kind (HasRow x c.followers.result) (HasEvents r) c.loop-x.self c.link_row.new.self (λ Q all y h. all x y (lx, sym (c.followers.ensures y) ∙ h)) a.raised),
-      λ z y l h. elim (cases_eq z x) [
-        | inl e ↦ subst (λ k. earlier c.link_row.new.self k y ≡ true) (sym e) (a.linked y (c.followers.ensures y ∙ subst (λ k. leads_in r k y ≡ true) e h))
-        | inr ne ↦ a.raised.keeps z y (c.loop-x.invariant.1 z y (omega arith) h)
-      ],
-    )
+    let lx : c.loop-x.x < count (history_in c.args.case.now) = omega arith in
+    raised_row (HasEvents c.args.case.now) (leads_in c.args.case.now) c.args.self.now c.loop-x.self c.link_row.new.self c.loop-x.x c.followers.result
+    c.loop-x.invariant.0 c.loop-x.invariant.1 (λ Q all y h. all c.loop-x.x y (lx, h)) c.followers.ensures c.link_row.ensures.linked c.link_row.ensures.raised
 
 pub returns : goal.returns
 returns g c =

@@ -35,4 +35,4 @@ pub returns : goal.returns
 returns g c =
     filled_exact c.args.given.record.now c.args.given.pairs.now c.new-closure.result c.link_events.new.self c.link_pairs.new.self c.new-closure.ensures.none
     c.link_events.ensures.raised c.link_pairs.ensures.raised c.of-facts.result c.args.given.inside c.of-facts.ensures (c.new-closure.ensures.count ∙ c.count.ensures)
-    c.link_events.ensures.linked c.link_pairs.ensures.linked c.saturate.new.self c.saturate.ensures
+    c.link_events.ensures.linked c.link_pairs.ensures.linked c.saturate.new.self c.saturate.ensures.finished

@@ -1,8 +1,9 @@
 use Rattle.std.proofs.Common.{ℕ, Bool, sym, refl, ◌∙◌, subst, arith, rules}
 use Rattle.saturation.specs.Laws.{Grown, Closed}
-use Rattle.closure.specs.Closures.{earlier, Fits}
+use Rattle.closure.specs.Closures.{earlier, Fits, Finished}
 use Rattle.saturation.proofs.Steps.{grown_same, grown_then}
 use Rattle.closure.proofs.Raises.{still_earlier, ready_step, ready_closed, grown_of, less_left}
+use Rattle.closure.proofs.Closes.{made_exact}
 use Rattle.closure.proofs.reach.Closure.saturate.Goals as goal
 
 pub loop-w-init : goal.loop-w-init
@@ -42,9 +43,11 @@ returns g c =
     let p = c.next_waiting.new.self in
     let u = c.next_waiting.ensures.still in
     let none = c.in_default.ensures.next in
-    record {
+    let done : Finished c.args.facts.now c.args.self.now c.next_waiting.new.self
+    = record {
       grown = subst (λ (R : ℕ → ℕ → Bool). Grown f (earlier c.args.self.now) R) (sym (still_earlier o p u)) c.loop-w.invariant.2;
       closed = subst (λ (R : ℕ → ℕ → Bool). Closed f R) (sym (still_earlier o p u)) (ready_closed f o none.0 c.loop-w.invariant.1);
       idle = none.1;
       events = u.events ∙ c.loop-w.invariant.0;
-    }
+    } in
+    record { finished = done; exact = made_exact f c.args.self.now p c.requires.events done }

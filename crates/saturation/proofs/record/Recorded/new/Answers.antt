@@ -23,8 +23,8 @@ loop-x-init g c = (
 pub loop-x-preserved : goal.loop-x-preserved
 loop-x-preserved g c =
     let keeps = g.R.Rule.keeps c.args.rule.now in
-    let rows = c.loop-x.row-items in
-    let l : c.loop-x.x < length c.loop-x.row-items = omega (arith, c.loop-x-test.true, c.loop-x.invariant.0) in (
+    let rows = c.loop-x.kept in
+    let l : c.loop-x.x < length c.loop-x.kept = omega (arith, c.loop-x-test.true, c.loop-x.invariant.0) in (
       length-set rows c.loop-x.x c.kept_after.result ∙ c.loop-x.invariant.0,
       λ x y.
           one_more (λ x. in_rows rows x y) (λ x. kept_by keeps c.as_slice-listed.result.now (suc x) (suc y)) c.loop-x.x _
@@ -44,14 +44,14 @@ pub invariant_of-result : goal.invariant_of-result
 invariant_of-result g c =
     let keeps = g.R.Rule.keeps c.args.rule.now in
     let few : length c.as_slice-listed.result.now ≤ c.loop-x.x = omega (arith, c.loop-x-test.false, c.as_slice-listed.ensures.fits) in
-    let rows = rows_are c.loop-x.row-items c.as_slice-listed.result.now keeps c.loop-x.x few c.loop-x.invariant.1 in
+    let rows = rows_are c.loop-x.kept c.as_slice-listed.result.now keeps c.loop-x.x few c.loop-x.invariant.1 in
     record {
       wide = c.requires.room.0;
       narrow = c.requires.room.1;
       fits = subst (λ l. length l ≤ g.row.N) c.as_slice-listed.ensures.value c.as_slice-listed.ensures.fits;
       each = c.loop-x.invariant.0;
       later = λ x y h. subst (λ l. (x < y) × (y < length l)) c.as_slice-listed.ensures.value (kept_bounds c.as_slice-listed.result.now keeps x y (sym (rows x y) ∙ h));
-      accepted = ∣ (opening_accepts_lem (history_from c.args.events.items c.loop-x.row-items)).0 c.requires.opens ∣₁;
+      accepted = ∣ (opening_accepts_lem (history_from c.args.events.items c.loop-x.kept)).0 c.requires.opens ∣₁;
     }
 
 pub returns : goal.returns
@@ -59,9 +59,9 @@ returns g c =
     let keeps = g.R.Rule.keeps c.args.rule.now in
     let few : length c.as_slice-listed.result.now ≤ c.loop-x.x = omega (arith, c.loop-x-test.false, c.as_slice-listed.ensures.fits) in
     record {
-      history = history_is c.args.events.items keeps c.loop-x.row-items
+      history = history_is c.args.events.items keeps c.loop-x.kept
           (λ x y.
-          rows_are c.loop-x.row-items c.as_slice-listed.result.now keeps c.loop-x.x few c.loop-x.invariant.1 x y
+          rows_are c.loop-x.kept c.as_slice-listed.result.now keeps c.loop-x.x few c.loop-x.invariant.1 x y
           ∙ ap (λ es. kept_by keeps es (suc x) (suc y)) c.as_slice-listed.ensures.value);
       given = refl;
     }

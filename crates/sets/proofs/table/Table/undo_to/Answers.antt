@@ -1,48 +1,44 @@
-use Rattle.std.proofs.Common.{◌≡◌, ℕ, ◌+◌, ◌-◌, ◌<◌, ◌++◌, List, [], ◌∷◌, length, get_or, take, take_all, drop_of_length-le, fold, reverse, drop, subst, refl, sym, ap, ◌∙◌, arith}
-use Rattle.std.proofs.lemmas.List.{length-take-le, take_more}
-use Rattle.sets.specs.declared.table.Saved.{Saved}
-use Rattle.sets.specs.Rows.{in_rows, restored}
-use Rattle.sets.proofs.Backs.{back_in, last_back}
+use Rattle.std.proofs.Common.{◌≡◌, ℕ, ◌+◌, ◌-◌, ◌<◌, length, get_or, sym, refl, ap, ◌∙◌, inl, inr, arith, length-set, rules}
+use Rattle.std.proofs.lemmas.Bool.{cases_eq, eq-eqb, ne_eqb}
+use Rattle.sets.specs.Rows.{in_rows, undone, taken_back}
+use Rattle.sets.proofs.Backs.{in_get, in_set_same, in_set_other, popped, undone_none, rows_same}
 use Rattle.sets.proofs.table.Table.undo_to.Goals as goal
 
--- one more entry is read from the back
-grown : {W : ℕ} (xs : List (Saved W)) (n : ℕ) (s : Saved W) → 0 < n → n - 1 < length xs → s ≡ get_or xs (n - 1) s → take n xs ≡ take (n - 1) xs ++ s ∷ []
-grown {W} xs n s pos l at =
-    let e : n - 1 + 1 ≡ n = omega arith in
-    subst (λ m. take m xs ≡ take (n - 1) xs ++ s ∷ []) e (take_more xs (n - 1) s l ∙ ap (λ (r : Saved W). take (n - 1) xs ++ r ∷ []) (sym at))
+pub loop-self-init : goal.loop-self-init
+loop-self-init g c = (c.requires, rows_same c.args.self.now)
 
-at_row : {W : ℕ} (xs : List (Saved W)) (N n : ℕ) (s : Saved W) → n < length xs → s ≡ get_or xs n s → ((k : ℕ) (d : Saved W) → k < length xs → (get_or xs k d).of < N) → s.of < N
-at_row {W} xs N n s l at all = subst (λ (r : Saved W). r.of < N) (sym at) (all n s l)
-
-pub loop-len-init : goal.loop-len-init
-loop-len-init g c = (omega arith, omega arith, refl, λ k l. ap (λ (xs : List (Saved g.row.W)). fold restored (in_rows c.args.self.now.rows) (reverse (drop k xs))) (take_all _ c.args.self.now.trail.items (omega arith)))
-
-pub loop-len-preserved : goal.loop-len-preserved
-loop-len-preserved g c =
-    let items = c.loop-len.self.trail.items in
-    let at : c.index-deref-len.result ≡ get_or items (c.loop-len.len - 1) c.index-deref-len.result = rw (c.deref.ensures.0) at c.index-deref-len.is in
-    let inside : c.index-deref-len.result.of < length c.loop-len.self.rows = omega (arith, at_row items g.row.N (c.loop-len.len - 1) c.index-deref-len.result (omega arith) at c.loop-len.self.held) in (
+pub loop-self-preserved : goal.loop-self-preserved
+loop-self-preserved g c =
+    let n : ℕ = c.loop-self.self.len - 1 in
+    let s : c.loop-self.self.len - 1 + 1 ≡ c.loop-self.self.len = omega arith in
+    let x : ℕ = get_or c.loop-self.self.at (c.loop-self.self.len - 1) 0 in
+    let lx : get_or c.loop-self.self.at (c.loop-self.self.len - 1) 0 < length c.loop-self.self.rows = search rules in
+    let lo : c.loop-self.self.len - 1 < length c.loop-self.self.saved = search rules in (
       omega arith,
-      omega arith,
-      c.loop-len.invariant.2,
-      λ k l.
-          sym (last_back (take (c.loop-len.len - 1) items) (take c.loop-len.len items) c.index-deref-len.result _ (in_rows c.loop-len.self.rows) (grown items c.loop-len.len c.index-deref-len.result (omega arith) (omega arith) at) (back_in c.loop-len.self.rows c.index-deref-len.result inside) k (omega (arith, length-take-le (c.loop-len.len - 1) items)))
-          ∙ c.loop-len.invariant.3 k (omega arith),
+      record {
+        longer = omega (arith, c.loop-self.invariant.1.longer);
+        back = λ k lk.
+            sym (popped c.loop-self.self.at c.loop-self.self.saved n (in_rows c.loop-self.self.rows) _
+            (λ z y. elim (cases_eq z x) [
+              | inl e ↦ rw (e, eq-eqb x x refl) (in_set_same c.loop-self.self.rows x _ lx y ∙ sym (in_get c.loop-self.self.saved n _ lo y))
+              | inr ne ↦ rw (ne_eqb z x ne) (in_set_other c.loop-self.self.rows x _ z ne y)
+            ])
+            k lk
+            ∙ ap (λ m. taken_back c.loop-self.self.at c.loop-self.self.saved k (m - k) (in_rows c.loop-self.self.rows)) s
+            ∙ sym (c.loop-self.invariant.1.back k (omega arith)));
+      },
     )
 
 pub returns : goal.returns
 returns g c =
-    let rows = c.loop-len.self.rows in
-    let items = c.loop-len.self.trail.items in
-    let e : c.loop-len.len ≡ c.args.mark = omega arith in
-    let cut : take c.loop-len.len items ≡ c.truncate.new.self.items = ap (λ n. take n items) e ∙ sym c.truncate.ensures.items in
-    let long : length c.truncate.new.self.items ≡ c.args.mark = omega (arith, c.truncate.ensures.len) in
-    let none : drop c.args.mark (take c.loop-len.len items) ≡ [] = ap (drop c.args.mark) cut ∙ drop_of_length-le c.truncate.new.self.items {i = c.args.mark} (omega arith) in
+    let e : c.loop-self.self.len ≡ c.args.mark = omega arith in
     record {
-      len = long;
-      rows = ap (λ (xs : List (Saved g.row.W)). fold restored (in_rows rows) (reverse xs)) (sym none) ∙ c.loop-len.invariant.3 c.args.mark (omega arith);
-      back = record {
-        longer = omega arith;
-        back = λ k l. sym (c.loop-len.invariant.3 k (omega arith)) ∙ ap (λ (xs : List (Saved g.row.W)). fold restored (in_rows rows) (reverse (drop k xs))) cut;
-      };
+      len = e;
+      rows = sym (undone_none c.loop-self.self) ∙ sym (c.loop-self.invariant.1.back c.loop-self.self.len (omega arith)) ∙ ap (undone c.args.self.now) e;
+      back = c.loop-self.invariant.1;
     }
+
+pub invariant_of-self : goal.invariant_of-self
+invariant_of-self g c =
+    let t = c.loop-self.self in
+    record { wide = t.wide; narrow = t.narrow; sized = simp length-set t.sized; marks = t.marks; olds = t.olds; deep = omega arith; held = λ k l. t.held k (omega arith) }
