@@ -11,7 +11,8 @@ use history::{Event, READ, WRITE};
 fn writes_same(e: Event, w: Event) -> bool
     ensures { result ≡ writes_same e w }
 {
-    w.kind == WRITE && w.star == e.star && w.revision == e.revision
+    // The star first: a branch on it is foreseen more often than one on the kind.
+    w.star == e.star && w.revision == e.revision && w.kind == WRITE
 }
 
 /// Whether one of the events is a write of the star and the revision of `e`.

@@ -24,8 +24,10 @@ impl Case {
         }
     }
 
+    // Not inlined: whoever called it would hold the size of a record while it searches.
     /// Opens the case with the events that a source means at this moment and the pairs of them that a rule keeps: no
     /// stipulation stands, and it is unjudged. A fault leaves the case as it was.
+    #[inline(never)]
     pub fn open<S: Source, R: Rule>(&mut self, source: &S, rule: &R) -> Result<(), HistoryFault>
         ensures opens { Opens (S.Source.events source.now) (R.Rule.keeps rule.now) self.new result }
         ensures same { is_err result ≡ true → self.new ≡ self.old }
