@@ -1,7 +1,8 @@
 -- The event with a number, by places of the list and through the layers. Assumes nothing.
-use Rattle.std.proofs.Common.{◌≡◌, ℕ, zero, suc, ◌+◌, ◌-◌, ◌<◌, ◌≤◌, List, [], ◌∷◌, ◌++◌, map, length, get_or, take, drop, Some, None, Option, sym, refl, ap, ◌∙◌, add-one, arith, Bor}
+use Rattle.std.proofs.Common.{◌≡◌, ℕ, zero, suc, ◌+◌, ◌-◌, ◌<◌, ◌≤◌, List, [], ◌∷◌, ◌++◌, map, length, get_or, take, drop, Some, None, Option, sym, refl, ap, ◌∙◌, add-one, arith, Bor, ⊎_elim}
 use Rattle.std.specs.List.{slice_get}
-use Rattle.std.proofs.lemmas.List.{drop_more}
+use Rattle.std.proofs.lemmas.List.{drop_more, drop_all}
+use Rattle.std.proofs.lemmas.Bool.{cases_lt}
 use Rattle.std.proofs.lemmas.Option.{slice_get-get_or, slice_get-map, slice_get_past, slice_get_within, get_or_from_slice_get}
 use Rattle.std.specs.Option.{option_map}
 use Rattle.std.specs.Slice.{IsGetResult}
@@ -63,6 +64,17 @@ pub numbered_there : (es : List Event) (n : ℕ) → 0 < n → n ≤ length es �
 numbered_there es n pos le none =
     let some = numbered_in es n (record { kind = 0; session = 0; star = 0; revision = 0 }) pos le in
     let z : ◌≡◌ {A = ℕ} 0 1 = cc in omega arith
+
+-- what is left from a place on, by what the next number has
+pub drop_some : (es : List Event) (i n : ℕ) (e : Event) → n ≡ i + 1 → numbered es n ≡ Some e → drop i es ≡ e ∷ drop n es
+drop_some es i n e is at =
+    let here = numbered_at es i e (ap (numbered es) (sym is) ∙ at) in
+    drop_more es i e here.0 ∙ ap (λ x. x ∷ drop (i + 1) es) (sym here.1) ∙ ap (λ k. e ∷ drop k es) (sym is)
+
+pub drop_none : (es : List Event) (i n : ℕ) → n ≡ i + 1 → numbered es n ≡ None → drop i es ≡ []
+drop_none es i n is none = ⊎_elim
+    (λ lt. absurd (numbered_there es n (omega arith) (omega arith) none))
+    (λ le. drop_all i es le) (cases_lt i (length es))
 
 -- what is still to come of the first m, where there is an event with the next number
 pub left_some : (es : List Event) (m i n : ℕ) (e : Event) → i < m → n ≡ i + 1 → numbered es (i + 1) ≡ Some e

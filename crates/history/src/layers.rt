@@ -33,13 +33,13 @@ impl<S: Source> Source for Pick<S> {
     }
 
     fn count(&self) -> u16 {
-        self.below.iter().filter(|e| self.picks(e)).count() as u16
+        self.below.iter_counted().filter(|e| self.picks(e)).count() as u16
     }
 
     fn event(&self, number: u16) -> Option<Event> {
         let place = number.checked_sub(1)?;
         self.below
-            .iter()
+            .iter_counted()
             .filter(|e| self.picks(e))
             .nth(place as usize)
     }

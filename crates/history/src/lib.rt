@@ -11,7 +11,7 @@ mod source;
 
 pub use either::Either;
 pub use event::{Access, Event, READ, WRITE};
-pub use events::Events;
+pub use events::{Counted, Events};
 pub use layers::{Join, Offset, Pick};
 pub use preference::{ByNumber, BySession, ByStar, Candidate, Preference};
 pub use rule::{Lag, Rule, Star, Strict};

@@ -1,12 +1,12 @@
 ghost use Rattle.std.specs.Prelude.{◌≡◌, ℕ, ◌≤◌, List, length, take};
 ghost use Rattle.history.specs.declared.event.Event.{Event};
 ghost use Rattle.history.specs.Lists.{numbered};
-ghost use Rattle.history.specs.Events.{events_left};
+ghost use Rattle.history.specs.Events.{counted_left, events_left};
 ghost use Rattle.either.specs.Either.{either};
 ghost use Rattle.history.specs.Few.{few_take, few_either};
 
 use crate::event::Event;
-use crate::events::Events;
+use crate::events::{Counted, Events};
 use either::{Either, for_both};
 
 /// A season and a list of at most 65,535 events, numbered from 1, that can be asked for.
@@ -33,13 +33,26 @@ pub trait Source {
     fn event(&self, number: u16) -> Option<Event>
         ensures { result ≡ numbered (events self.now) number };
 
-    /// The events, in their order. It asks for the count once, and then for one event after another.
+    /// The events, in their order. It asks for one event after another, until there is none.
     final fn iter(&self) -> Events<'_, Self>
     where
         Self: Sized,
         ensures { events_left events result ≡ events self.now }
     {
+        let given = 0;
         Events {
+            source: self,
+            given,
+        }
+    }
+
+    /// The events, in their order. It asks for the count once, and then for one event after another.
+    final fn iter_counted(&self) -> Counted<'_, Self>
+    where
+        Self: Sized,
+        ensures { counted_left events result ≡ events self.now }
+    {
+        Counted {
             source: self,
             count: self.count(),
             given: 0,

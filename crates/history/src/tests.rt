@@ -71,6 +71,24 @@ fn a_pile_of_three_layers(rt: HostRuntime) {
     assert_eq!(rt; pile.iter().last(), Some(event(0, 3, 9, 101)));
 }
 
+/// Two events, gone over as long as there is one, and as many as there are.
+#[test]
+fn both_ways_over_a_source(rt: HostRuntime) {
+    let records = [event(1, 0, 3, 7), event(0, 1, 4, 0)];
+    let table = Table {
+        season: 2031,
+        events: &records,
+    };
+    let mut events = table.iter();
+    assert_eq!(rt; events.next(), Some(event(1, 0, 3, 7)));
+    assert_eq!(rt; events.next(), Some(event(0, 1, 4, 0)));
+    assert_eq!(rt; events.next(), None);
+    let mut counted = table.iter_counted();
+    assert_eq!(rt; counted.next(), Some(event(1, 0, 3, 7)));
+    assert_eq!(rt; counted.next(), Some(event(0, 1, 4, 0)));
+    assert_eq!(rt; counted.next(), None);
+}
+
 #[test]
 fn seasons_rules_and_preferences(rt: HostRuntime) {
     let first = Table {

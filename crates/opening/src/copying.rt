@@ -12,7 +12,7 @@ fn copied<S: Source>(source: &S) -> ArrayVec<Event, 256>
     ensures { result.items ≡ S.Source.events source.now }
 {
     let mut events = ArrayVec::new();
-    for e in source.iter() {
+    for e in source.iter_counted() {
         events.push(e);
     }
     events

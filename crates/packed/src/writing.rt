@@ -14,7 +14,7 @@ use history::{Event, Source};
 fn all_fit<S: Source>(source: &S) -> bool
     ensures { result ≡ all_fitting (S.events source.now) }
 {
-    source.iter().all(|e| e.fits())
+    source.iter_counted().all(|e| e.fits())
 }
 
 /// Writes the header.
@@ -62,7 +62,7 @@ fn put_all<S: Source>(source: &S, bytes: &mut [u8]) -> usize
     let count = source.count();
     let season = source.season();
     put_head(bytes, Header { season, count });
-    for (i, e) in source.iter().enumerate() {
+    for (i, e) in source.iter_counted().enumerate() {
         put_event(bytes, i as u16 + 1, e);
     }
     put_fill(bytes, count);

@@ -63,7 +63,7 @@ pub(crate) fn print_reading(rt: &HostRuntime, bytes: &[u8]) -> Result<(), Troubl
     }
     let source = Packed { bytes };
     print_head(rt, &source)?;
-    for event in source.iter() {
+    for event in source.iter_counted() {
         print!(rt; " {event}")?;
     }
     println!(rt; "")?;
