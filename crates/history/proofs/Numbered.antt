@@ -80,10 +80,8 @@ drop_none es i n is none = ⊎_elim
 pub left_some : (es : List Event) (m i n : ℕ) (e : Event) → i < m → n ≡ i + 1 → numbered es (i + 1) ≡ Some e
     → take (m - i) (drop i es) ≡ e ∷ take (m - n) (drop n es)
 left_some es m i n e lt is at =
-    let here = numbered_at es i e at in
-    let one : m - i ≡ suc (m - (i + 1)) = omega arith in
-    ap (take (m - i)) (drop_more es i e here.0 ∙ ap (λ x. x ∷ drop (i + 1) es) (sym here.1))
-    ∙ ap (λ k. take k (e ∷ drop (i + 1) es)) one ∙ ap (λ k. e ∷ take (m - k) (drop k es)) (sym is)
+    let one : m - i ≡ suc (m - n) = omega (arith, is) in
+    ap (take (m - i)) (drop_some es i n e is (ap (numbered es) is ∙ at)) ∙ ap (λ k. take k (e ∷ drop n es)) one
 
 -- what stands first of what is left has the next number
 pub numbered_next : (es : List Event) (i : ℕ) (e : Event) (rest : List Event) → drop i es ≡ e ∷ rest → (numbered es (i + 1) ≡ Some e) × (drop (i + 1) es ≡ rest)

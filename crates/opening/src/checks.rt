@@ -11,7 +11,7 @@ use history::{Event, READ, WRITE};
 fn writes_same(e: Event, w: Event) -> bool
     ensures { result ≡ writes_same e w }
 {
-    // The star first: a branch on it is foreseen more often than one on the kind.
+    // The star first: measured, an opening is faster, it seems since the machine foresees the star and not the kind.
     w.star == e.star && w.revision == e.revision && w.kind == WRITE
 }
 

@@ -24,7 +24,7 @@ impl Case {
         }
     }
 
-    // Not inlined: whoever called it would hold the size of a record while it searches.
+    // Not inlined: whoever called it would hold what it needs, 24 KiB, while it searches.
     /// Opens the case with the events that a source means at this moment and the pairs of them that a rule keeps: no
     /// stipulation stands, and it is unjudged. A fault leaves the case as it was.
     #[inline(never)]
